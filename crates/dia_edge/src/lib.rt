@@ -1,0 +1,18 @@
+//! The outside of the engine: where inputs come from, where texts go, and where blocks are spilled.
+//!
+//! The layers above rely on the clauses of the four traits alone. An object may tell what it holds or takes, as
+//! those in memory do, or tell nothing, as real files do; clauses on contents hold where it tells. The words that
+//! the clauses use stand in `specs/`: Counts, Shelves, Sinks, Disks.
+#![tactic(auto)]
+
+mod disk;
+mod gate;
+mod refusals;
+mod shelf;
+mod sink;
+
+pub use disk::Disk;
+pub use gate::Gate;
+pub use refusals::{Failed, NoMemory};
+pub use shelf::Shelf;
+pub use sink::Sink;
