@@ -1,0 +1,61 @@
+-- What a script's lines mean: one list of rows for each, on the lists of the lines that it names.
+use Rattle.std.specs.Prelude.{◌≡◌, ℕ, ◌+◌, ◌^◌, nat_lt, List, [], ◌∷◌, length, take, map, Option, None, Some, if◌then◌else◌, position}
+use Rattle.std.specs.List.{flat_map}
+use Rattle.dia_defs.specs.Rows.{Row, longest_text}
+use Rattle.dia_defs.specs.Pieces.{lines_of, line_rows}
+use Rattle.dia_defs.specs.Values.{Expr, value_of}
+use Rattle.dia_defs.specs.Scripts.{LocalOp, map_op, Form, lines_form, local_form, Action, print_action}
+
+-- the bytes of each input, or none where there is no such input
+abbrev pub Inputs : Type 0
+Inputs = List ℕ → Option (List ℕ)
+
+-- the list of each script line that has one
+abbrev pub Lists : Type 0
+Lists = ℕ → Option (List Row)
+
+-- the rows that a local line makes of one row
+abbrev pub rows_made : LocalOp → Row → List Row
+rows_made (map_op exprs) row = map (λ e. value_of e row) exprs ∷ []
+
+-- the list is a result of the line's definition
+abbrev pub IsLine : Inputs → Lists → Form → List Row → Type 0
+IsLine inputs lists (lines_form input) rows = (bytes : List ℕ) × (inputs input ≡ Some bytes) × (rows ≡ line_rows bytes)
+IsLine inputs lists (local_form of op) rows = (a : List Row) × (lists of ≡ Some a) × (rows ≡ flat_map (rows_made op) a)
+
+-- why a line or an action is not done
+pub data Block : Type 0 where
+  missing : Block                -- there is no such input
+  line_too_long : ℕ → Block      -- this line of the input, from 1, is longer than a text may be
+  input_too_long : Block         -- the input is longer than an input may be
+  too_many_rows : Block          -- more rows arrive than may
+
+abbrev pub longest_input : ℕ
+longest_input = 2 ^ 32
+
+abbrev pub most_rows : ℕ
+most_rows = 2 ^ 40
+
+-- the first line longer than a text may be, from 0, within what an input may have
+abbrev pub long_line : List ℕ → Option ℕ
+long_line bytes = position (λ line. nat_lt longest_text (length line)) (lines_of (take longest_input bytes))
+
+abbrev pub block_of_long_line : Option ℕ → List ℕ → Option Block
+block_of_long_line (Some i) bytes = Some (line_too_long (i + 1))
+block_of_long_line None bytes = if nat_lt longest_input (length bytes) then Some input_too_long else None
+
+abbrev pub block_of_input : Option (List ℕ) → Option Block
+block_of_input None = Some missing
+block_of_input (Some bytes) = block_of_long_line (long_line bytes) bytes
+
+abbrev pub block_of_form : Inputs → Form → Option Block
+block_of_form inputs (lines_form input) = block_of_input (inputs input)
+block_of_form inputs (local_form of op) = None
+
+-- the rows of a line that has a list
+abbrev pub rows_in : Option (List Row) → List Row
+rows_in None = []
+rows_in (Some rows) = rows
+
+abbrev pub block_of_action : Lists → Action → Option Block
+block_of_action lists (print_action of) = if nat_lt most_rows (length (rows_in (lists of))) then Some too_many_rows else None

@@ -1,0 +1,43 @@
+-- Scripts: statements by line number. Operands are line numbers.
+use Rattle.std.specs.Prelude.{ℕ, List, [], ◌∷◌, Option, None, Some, ◌==◌, if◌then◌else◌}
+use Rattle.dia_defs.specs.Values.{Expr}
+
+-- one local line: what it makes of a row rests on that row alone
+pub data LocalOp : Type 0 where
+  map_op : List Expr → LocalOp
+
+-- what a line is
+pub data Form : Type 0 where
+  lines_form : List ℕ → Form           -- an input's lines, by the input's name
+  local_form : ℕ → LocalOp → Form      -- the rows that a local line makes of an earlier line's
+
+pub data Action : Type 0 where
+  print_action : ℕ → Action
+
+pub data Statement : Type 0 where
+  line : List ℕ → Form → Statement     -- a name, and the line that it stands for
+  act : Action → Statement
+
+pub record Numbered : Type 0 where
+  pub number : ℕ
+  pub statement : Statement
+
+abbrev pub Script : Type 0
+Script = List Numbered
+
+-- the lines that a statement names
+abbrev pub form_operands : Form → List ℕ
+form_operands (lines_form input) = []
+form_operands (local_form of op) = of ∷ []
+
+abbrev pub action_operand : Action → ℕ
+action_operand (print_action of) = of
+
+abbrev pub operands_of : Statement → List ℕ
+operands_of (line name form) = form_operands form
+operands_of (act action) = action_operand action ∷ []
+
+-- the statement with this number
+abbrev pub statement_at : Script → ℕ → Option Statement
+statement_at [] n = None
+statement_at (s ∷ later) n = if s.number == n then Some s.statement else statement_at later n
