@@ -1,0 +1,36 @@
+//! The first piece of bytes.
+ghost use Rattle.std.specs.Prelude.{◌≡◌, ℕ, ◌+◌, ◌<◌, ◌≤◌, List, [], ◌∷◌, ◌++◌, length, take, drop, IfSome, MatchOption};
+ghost use Rattle.dia_defs.specs.Pieces.{pieces_from, last_piece};
+
+use memchr::memchr;
+
+/// Where the first separator stands.
+#[inline]
+pub fn find_separator(separator: u8, bytes: &[u8]) -> Option<usize>
+    ensures within { IfSome result (λ i. i < length bytes.now) }
+    // The bytes before it end the piece that began with `run`, and those behind it are cut anew.
+    ensures pieces { MatchOption result
+        ((run : List ℕ) → pieces_from separator run bytes.now ≡ last_piece (run ++ bytes.now))
+        (λ i. (run : List ℕ) → pieces_from separator run bytes.now
+            ≡ (run ++ take i bytes.now) ∷ pieces_from separator [] (drop (i + 1) bytes.now)) }
+{
+    memchr(separator, bytes)
+}
+
+/// The first piece, and what stands behind its separator.
+#[inline]
+pub fn cut_off(separator: u8, bytes: &[u8]) -> (&[u8], &[u8])
+    requires { 0 < length bytes.now }
+    ensures pieces { pieces_from separator [] bytes.now ≡ result.0.now ∷ pieces_from separator [] result.1.now }
+    ensures piece { length result.0.now ≤ length bytes.now }
+    ensures shorter { length result.1.now < length bytes.now }
+{
+    match find_separator(separator, bytes) {
+        Some(i) => {
+            let (piece, _) = bytes.split_at(i);
+            let (_, rest) = bytes.split_at(i + 1);
+            (piece, rest)
+        }
+        None => (bytes, &[]),
+    }
+}

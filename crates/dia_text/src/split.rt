@@ -1,0 +1,25 @@
+//! The words of a line.
+ghost use Rattle.std.specs.Prelude.{◌≡◌, List, ℕ, map, IfOk};
+ghost use Rattle.dia_defs.specs.Pieces.{words_of};
+
+use std::alloc::Global;
+
+use dia_edge::NoMemory;
+
+use crate::cut::cut_off;
+
+/// The words of a line, which are parted by one or more spaces.
+pub fn words(alloc: Global, line: &[u8]) -> Result<Vec<&[u8]>, NoMemory>
+    ensures { IfOk result (λ words. map (λ word. word.now) words.items ≡ words_of line.now) }
+{
+    let mut words = Vec::new(alloc);
+    let mut rest = line;
+    while !rest.is_empty() {
+        let (word, more) = cut_off(b' ', rest);
+        if !word.is_empty() {
+            words.push(word)?;
+        }
+        rest = more;
+    }
+    Ok(words)
+}
