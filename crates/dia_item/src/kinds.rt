@@ -1,0 +1,66 @@
+//! The kinds of a row.
+ghost use Rattle.std.specs.Prelude.{◌≤◌, ◌<◌};
+
+use dia_defs::Kind;
+
+/// From one to six kinds, those of a row's columns in order.
+#[derive(Clone, Copy)]
+pub struct Kinds {
+    all: [Kind; 6],
+    count: usize,
+    ghost some: { 0 < count },
+    ghost most: { count ≤ 6 },
+}
+
+impl Kinds {
+    ghost use Rattle.std.specs.Prelude.{◌≡◌, ◌≤◌, ◌<◌, ◌++◌, ◌∷◌, [], IfSome, IsSome, ◌↔◌, length};
+    ghost use Rattle.dia_item.specs.KindList.{kind_list};
+
+    /// These kinds; None where there are none of them, or more than six.
+    pub fn new(kinds: &[Kind]) -> Option<Kinds>
+        ensures some { IfSome result (λ k. kind_list k ≡ kinds.now) }
+        ensures none { IsSome result ↔ ((0 < length kinds.now) × (length kinds.now ≤ 6)) }
+    {
+        if kinds.is_empty() || kinds.len() > 6 {
+            return None;
+        }
+        let mut all = [Kind::Int; 6];
+        all[..kinds.len()].copy_from_slice(kinds);
+        Some(Kinds {
+            all,
+            count: kinds.len(),
+        })
+    }
+
+    /// This one kind.
+    pub fn one(kind: Kind) -> Kinds
+        ensures { kind_list result ≡ kind ∷ [] }
+    {
+        let mut all = [Kind::Int; 6];
+        all[0] = kind;
+        Kinds { all, count: 1 }
+    }
+
+    /// These kinds and one more.
+    pub fn and(&self, kind: Kind) -> Kinds
+        requires { length (kind_list self.now) < 6 }
+        ensures { kind_list result ≡ kind_list self.now ++ kind ∷ [] }
+    {
+        let mut all = self.all;
+        all[self.count] = kind;
+        Kinds {
+            all,
+            count: self.count + 1,
+        }
+    }
+
+    /// The kinds, in order.
+    #[inline]
+    pub fn list(&self) -> &[Kind]
+        ensures list { result.now ≡ kind_list self.now }
+        ensures some { 0 < length result.now }
+        ensures most { length result.now ≤ 6 }
+    {
+        &self.all[..self.count]
+    }
+}

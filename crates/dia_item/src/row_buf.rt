@@ -1,0 +1,144 @@
+//! Rows that are built.
+ghost use Rattle.std.specs.Prelude.{◌≡◌, ◌≤◌, ◌<◌, ◌+◌, ◌++◌, ◌∷◌, [], IfOk, length, vec_len, vec_capacity};
+ghost use Rattle.dia_item.specs.KindList.{kind_list, kinds_in};
+ghost use Rattle.dia_item.specs.Lent.{row_in_ref};
+ghost use Rattle.dia_defs.specs.Rows.{int, text, longest_text, bytes_of_u64, bytes_of_u32};
+
+use crate::kinds::Kinds;
+use crate::row_ref::RowRef;
+use dia_defs::Kind;
+use dia_edge::NoMemory;
+use std::alloc::Global;
+use std::marker::Model;
+
+/// A row that is built column by column, in room that was had at its making: no later call takes memory.
+#[derive(Drop)]
+pub struct RowBuf {
+    kinds: Option<Kinds>,
+    bytes: Vec<u8>,
+}
+
+impl Model for RowBuf {
+    ghost use Rattle.dia_defs.specs.Rows.{Row};
+
+    ghost Value = { Row };
+
+    ghost use Rattle.dia_item.specs.Room.{row_in, HasRoom};
+
+    ghost view = { row_in };
+
+    ghost invariant = { HasRoom };
+}
+
+// six fields of a text's 4 bytes of length and 65,536 of its own
+const LONGEST_ROW: usize = 393_240;
+
+fn kinds_and(kinds: &Option<Kinds>, kind: Kind) -> Kinds
+    requires { length (kinds_in kinds.now) < 6 }
+    ensures { kind_list result ≡ kinds_in kinds.now ++ kind ∷ [] }
+{
+    match kinds {
+        None => Kinds::one(kind),
+        Some(kinds) => kinds.and(kind),
+    }
+}
+
+// Bytes that there is room for.
+#[inline]
+fn append(bytes: &mut Vec<u8>, more: &[u8])
+    requires { vec_len bytes.old + length more.now ≤ vec_capacity bytes.old }
+    ensures items { bytes.new.items ≡ bytes.old.items ++ more.now }
+    ensures len { vec_len bytes.new ≡ vec_len bytes.old + length more.now }
+    ensures capacity { vec_capacity bytes.old ≤ vec_capacity bytes.new }
+{
+    let done = bytes.extend_from_slice(more);
+    if done.is_err() {
+        unreachable!()
+    }
+}
+
+#[inline]
+#[tactic(auto, unfolding(dia_defs::specs::Rows::bytes_of_u64))]
+fn append_u64(bytes: &mut Vec<u8>, v: u64)
+    requires { vec_len bytes.old + 8 ≤ vec_capacity bytes.old }
+    ensures items { bytes.new.items ≡ bytes.old.items ++ bytes_of_u64 v }
+    ensures capacity { vec_capacity bytes.old ≤ vec_capacity bytes.new }
+{
+    append(bytes, &v.to_le_bytes());
+}
+
+#[inline]
+#[tactic(auto, unfolding(dia_defs::specs::Rows::bytes_of_u32))]
+fn append_u32(bytes: &mut Vec<u8>, v: u32)
+    requires { vec_len bytes.old + 4 ≤ vec_capacity bytes.old }
+    ensures items { bytes.new.items ≡ bytes.old.items ++ bytes_of_u32 v }
+    ensures len { vec_len bytes.new ≡ vec_len bytes.old + 4 }
+    ensures capacity { vec_capacity bytes.old ≤ vec_capacity bytes.new }
+{
+    append(bytes, &v.to_le_bytes());
+}
+
+impl RowBuf {
+    /// A buffer with no columns, and room for the largest row.
+    pub fn new(alloc: Global) -> Result<RowBuf, NoMemory>
+        ensures { IfOk result (λ buffer. buffer ≡ []) }
+    {
+        Ok(RowBuf {
+            kinds: None,
+            bytes: Vec::with_capacity(alloc, LONGEST_ROW)?,
+        })
+    }
+
+    /// Takes all columns away.
+    pub fn clear(&mut self)
+        ensures { self.new ≡ [] }
+    {
+        self.kinds = None;
+        self.bytes.clear();
+    }
+
+    /// One more column, a number.
+    pub fn push_int(&mut self, v: u64)
+        requires { length self.old < 6 }
+        ensures { self.new ≡ self.old ++ int v ∷ [] }
+    {
+        self.kinds = Some(kinds_and(&self.kinds, Kind::Int));
+        append_u64(&mut self.bytes, v);
+    }
+
+    /// One more column, a text.
+    pub fn push_text(&mut self, t: &[u8])
+        requires columns { length self.old < 6 }
+        requires short { length t.now ≤ longest_text }
+        ensures { self.new ≡ self.old ++ text t.now ∷ [] }
+    {
+        self.kinds = Some(kinds_and(&self.kinds, Kind::Text));
+        append_u32(&mut self.bytes, t.len() as u32);
+        append(&mut self.bytes, t);
+    }
+
+    /// The columns of a row, in place of those that were there.
+    pub fn copy(&mut self, row: RowRef<'_>)
+        ensures { self.new ≡ row_in_ref row.entry }
+    {
+        let bytes = row.bytes();
+        self.kinds = Some(row.kinds());
+        self.bytes.clear();
+        append(&mut self.bytes, bytes);
+    }
+
+    /// The row of the columns so far.
+    #[inline]
+    pub fn row(&self) -> RowRef<'_>
+        requires { 0 < length self.now }
+        ensures { row_in_ref result ≡ self.now }
+    {
+        match &self.kinds {
+            None => unreachable!(),
+            Some(kinds) => RowRef {
+                kinds: *kinds,
+                bytes: self.bytes.as_slice(),
+            },
+        }
+    }
+}
