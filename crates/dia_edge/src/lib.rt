@@ -5,14 +5,17 @@
 //! the clauses use stand in `specs/`: Counts, Shelves, Sinks, Disks.
 #![tactic(auto)]
 
+mod count;
 mod disk;
 mod gate;
+mod name;
 mod refusals;
 mod shelf;
 mod sink;
 
 pub use disk::Disk;
 pub use gate::Gate;
+pub use name::Name;
 pub use refusals::{Failed, NoMemory};
 pub use shelf::Shelf;
 pub use sink::Sink;
