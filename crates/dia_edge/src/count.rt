@@ -1,5 +1,5 @@
 //! Counts, and the calls that are to fail: what every object of the outside keeps.
-ghost use Rattle.std.specs.Prelude.{◌≡◌};
+ghost use Rattle.std.specs.Prelude.{◌≡◌, ◌≤◌};
 ghost use Rattle.dia_edge.specs.Counts.{raised};
 
 use crate::refusals::Failed;
@@ -24,14 +24,16 @@ impl Count {
     }
 
     pub(crate) fn raise(&mut self)
-        ensures { self.new.number ≡ raised self.old.number }
+        ensures after { self.new.number ≡ raised self.old.number }
+        ensures stays { self.old.number ≤ self.new.number }
     {
         self.number = self.number.saturating_add(1);
     }
 
     /// Counts a fault, and answers it.
     pub(crate) fn fault(&mut self) -> Failed
-        ensures { self.new.number ≡ raised self.old.number }
+        ensures after { self.new.number ≡ raised self.old.number }
+        ensures stays { self.old.number ≤ self.new.number }
     {
         self.raise();
         Failed

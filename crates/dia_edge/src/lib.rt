@@ -8,13 +8,16 @@
 mod count;
 mod disk;
 mod gate;
+mod mem_sink;
 mod name;
+mod plan;
 mod refusals;
 mod shelf;
 mod sink;
 
 pub use disk::Disk;
 pub use gate::Gate;
+pub use mem_sink::MemSink;
 pub use name::Name;
 pub use refusals::{Failed, NoMemory};
 pub use shelf::Shelf;
