@@ -8,6 +8,7 @@
 mod count;
 mod disk;
 mod gate;
+mod mem_shelf;
 mod mem_sink;
 mod name;
 mod plan;
@@ -17,6 +18,7 @@ mod sink;
 
 pub use disk::Disk;
 pub use gate::Gate;
+pub use mem_shelf::MemShelf;
 pub use mem_sink::MemSink;
 pub use name::Name;
 pub use refusals::{Failed, NoMemory};
