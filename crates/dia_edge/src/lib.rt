@@ -5,14 +5,22 @@
 //! the clauses use stand in `specs/`: Counts, Shelves, Sinks, Disks.
 #![tactic(auto)]
 
+mod count;
 mod disk;
 mod gate;
+mod mem_shelf;
+mod mem_sink;
+mod name;
+mod plan;
 mod refusals;
 mod shelf;
 mod sink;
 
 pub use disk::Disk;
 pub use gate::Gate;
+pub use mem_shelf::MemShelf;
+pub use mem_sink::MemSink;
+pub use name::Name;
 pub use refusals::{Failed, NoMemory};
 pub use shelf::Shelf;
 pub use sink::Sink;
