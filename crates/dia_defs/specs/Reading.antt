@@ -163,10 +163,13 @@ abbrev pub has_unknown_word : Option Word → List (List ℕ) → Bool
 has_unknown_word None args = true
 has_unknown_word (Some word) args = list_any (λ w. is_none (expr_of w)) (expr_words word args)
 
+abbrev pub is_bad_column : Option Earlier → Expr → Bool
+is_bad_column None e = false
+is_bad_column (Some operand) e = is_none (expr_kind operand.kinds e)
+
 abbrev pub has_bad_column : Known → Option Word → List (List ℕ) → Bool
 has_bad_column known None args = false
-has_bad_column known (Some word) args =
-    list_any (λ e. is_none (expr_kind (kinds_in (operand_in known args)) e)) (exprs_in word args)
+has_bad_column known (Some word) args = list_any (is_bad_column (operand_in known args)) (exprs_in word args)
 
 abbrev pub has_too_many_columns : Option Word → List (List ℕ) → Bool
 has_too_many_columns None args = false

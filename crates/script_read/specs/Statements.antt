@@ -1,0 +1,25 @@
+-- The statements of the definitions that the code's statements stand for.
+use Rattle.std.specs.Prelude.{map}
+use Rattle.dia_defs.specs.Scripts.{LocalOp, map_op, Form, lines_form, local_form, Action, print_action, Statement, line, act, Numbered}
+use Rattle.dia_expr.specs.Exprs.{expr_in}
+use Rattle.script_read.specs.declared.statement.Form as forms
+use Rattle.script_read.specs.declared.statement.Form.TheVariants.{Lines, Map}
+use Rattle.script_read.specs.declared.statement.Action as actions
+use Rattle.script_read.specs.declared.statement.Action.TheVariants.{Print}
+use Rattle.script_read.specs.declared.statement.Statement as statements
+use Rattle.script_read.specs.declared.statement.Statement.TheVariants.{Line, Act}
+use Rattle.script_read.specs.declared.statement.Numbered as numbereds
+
+abbrev pub form_in : forms.Form → Form
+form_in (Lines input) = lines_form input
+form_in (Map of exprs) = local_form of (map_op (map expr_in exprs.items))
+
+abbrev pub action_in : actions.Action → Action
+action_in (Print of) = print_action of
+
+abbrev pub statement_in : statements.Statement → Statement
+statement_in (Line name form) = line name (form_in form)
+statement_in (Act action) = act (action_in action)
+
+abbrev pub numbered_in : numbereds.Numbered → Numbered
+numbered_in n = record { number = n.line; statement = statement_in n.statement }
