@@ -163,13 +163,13 @@ abbrev pub has_unknown_word : Option Word → List (List ℕ) → Bool
 has_unknown_word None args = true
 has_unknown_word (Some word) args = list_any (λ w. is_none (expr_of w)) (expr_words word args)
 
-abbrev pub is_bad_column : Option Earlier → Expr → Bool
-is_bad_column None e = false
-is_bad_column (Some operand) e = is_none (expr_kind operand.kinds e)
+abbrev pub have_bad_column : Option Earlier → List Expr → Bool
+have_bad_column None exprs = false
+have_bad_column (Some operand) exprs = list_any (λ e. is_none (expr_kind operand.kinds e)) exprs
 
 abbrev pub has_bad_column : Known → Option Word → List (List ℕ) → Bool
 has_bad_column known None args = false
-has_bad_column known (Some word) args = list_any (is_bad_column (operand_in known args)) (exprs_in word args)
+has_bad_column known (Some word) args = have_bad_column (operand_in known args) (exprs_in word args)
 
 abbrev pub has_too_many_columns : Option Word → List (List ℕ) → Bool
 has_too_many_columns None args = false
@@ -206,9 +206,8 @@ reading_of_sentence known s None None = refused UnknownWord
 reading_of_sentence known s (Some word) None =
     stated (statement_in known s.defines word s.args) (result_kinds known word s.args)
 
-abbrev pub reading_of_words : Known → List ℕ → List (List ℕ) → LineReading
-reading_of_words known bytes words =
-    let s = sentence_of words in
+abbrev pub reading_of_parts : Known → List ℕ → Sentence → LineReading
+reading_of_parts known bytes s =
     let word = word_in known s.defines s.word in
     reading_of_sentence known s word (first_cause (word_tests known bytes s word))
 
@@ -218,7 +217,7 @@ line_limit = 512
 unfoldable pub line_reading : Known → List ℕ → LineReading
 line_reading known bytes =
     if nat_lt line_limit (length bytes) then refused LineLong
-    else (if is_skipped_words (words_of bytes) then skipped else reading_of_words known bytes (words_of bytes))
+    else (if is_skipped_words (words_of bytes) then skipped else reading_of_parts known bytes (sentence_of (words_of bytes)))
 
 -- scripts -----------------------------------------------------------------------------------------------------------
 

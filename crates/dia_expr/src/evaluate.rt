@@ -6,9 +6,8 @@ ghost use Rattle.dia_item.specs.KindList.{kind_list};
 ghost use Rattle.dia_item.specs.Lent.{row_in_ref};
 ghost use Rattle.dia_expr.specs.Exprs.{expr_in};
 
-use dia_item::{Field, Kind, Kinds, RowBuf, RowRef};
-
 use crate::expr::Expr;
+use dia_item::{Field, Kind, Kinds, RowBuf, RowRef};
 
 /// The kind of an expression on rows of these kinds; None where it names a column that isn't there.
 pub fn kind_of(expr: &Expr, kinds: &Kinds) -> Option<Kind>

@@ -1,5 +1,5 @@
 -- The first piece of bytes, by the place of the first separator.
-use Rattle.std.proofs.Common.{filter, Option, None, Some, MatchOption, ◌≡◌, ◌≢◌, ℕ, zero, suc, ◌+◌, ◌<◌, ◌≤◌, Bool, true, false, List, [], ◌∷◌, ◌++◌, length, take, drop, get_or, eqb, eq-eqb, refl, sym, ap, ◌∙◌, subst, arith, append_assoc, append-nil, add-one}
+use Rattle.std.proofs.Common.{filter, Option, None, Some, MatchOption, ◌≡◌, ◌≢◌, ℕ, zero, suc, ◌+◌, ◌<◌, List, [], ◌∷◌, ◌++◌, length, take, drop, get_or, eq-eqb, refl, ap, ◌∙◌, arith, append_assoc, append-nil, add-one}
 use Rattle.std.proofs.lemmas.Bool.{ne_eqb, eqb-true}
 use Rattle.memchr.specs.Find.{IsFirstByte, is_byte}
 use Rattle.dia_defs.specs.Pieces.{pieces_from, last_piece, is_some_bytes, space}
@@ -14,7 +14,7 @@ pieces-found a zero run (b ∷ bytes) low is before = rw (eq-eqb b a is, append-
 pieces-found a (suc i) run (b ∷ bytes) low is before =
     rw (ne_eqb b a (before 0 (omega arith)))
     (pieces-found a i (run ++ b ∷ []) bytes (omega arith) is (λ k h. before (suc k) (omega arith))
-     ∙ ap (λ front. front ∷ pieces_from a [] (drop (suc i) bytes)) (append_assoc run (b ∷ []) (take i bytes)))
+    ∙ ap (λ front. front ∷ pieces_from a [] (drop (suc i) bytes)) (append_assoc run (b ∷ []) (take i bytes)))
 
 -- without a separator all is one piece
 pub pieces-none : (a : ℕ) (run bytes : List ℕ) → ((k : ℕ) → k < length bytes → get_or bytes k 0 ≢ a)
@@ -36,8 +36,8 @@ last_piece-some (b ∷ bytes) some = refl
 -- what a search for the separator says of the pieces
 pub pieces-by_search : (a : ℕ) (bytes : List ℕ) (place : Option ℕ) → IsFirstByte (is_byte a) bytes place
     → MatchOption place
-        ((run : List ℕ) → pieces_from a run bytes ≡ last_piece (run ++ bytes))
-        (λ i. (run : List ℕ) → pieces_from a run bytes ≡ (run ++ take i bytes) ∷ pieces_from a [] (drop (i + 1) bytes))
+    ((run : List ℕ) → pieces_from a run bytes ≡ last_piece (run ++ bytes))
+    (λ i. (run : List ℕ) → pieces_from a run bytes ≡ (run ++ take i bytes) ∷ pieces_from a [] (drop (i + 1) bytes))
 pieces-by_search a bytes None is = λ run. pieces-none a run bytes (λ k low e. is k (omega arith) low (eq-eqb _ _ e))
 pieces-by_search a bytes (Some i) is = λ run.
     rw add-one

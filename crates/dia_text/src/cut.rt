@@ -12,7 +12,7 @@ pub fn find_separator(separator: u8, bytes: &[u8]) -> Option<usize>
     ensures pieces { MatchOption result
         ((run : List ℕ) → pieces_from separator run bytes.now ≡ last_piece (run ++ bytes.now))
         (λ i. (run : List ℕ) → pieces_from separator run bytes.now
-            ≡ (run ++ take i bytes.now) ∷ pieces_from separator [] (drop (i + 1) bytes.now)) }
+        ≡ (run ++ take i bytes.now) ∷ pieces_from separator [] (drop (i + 1) bytes.now)) }
 {
     memchr(separator, bytes)
 }

@@ -2,11 +2,9 @@
 ghost use Rattle.std.specs.Prelude.{◌≡◌, List, ℕ, map, IfOk};
 ghost use Rattle.dia_defs.specs.Pieces.{words_of};
 
-use std::alloc::Global;
-
-use dia_edge::NoMemory;
-
 use crate::cut::cut_off;
+use dia_edge::NoMemory;
+use std::alloc::Global;
 
 /// The words of a line, which are parted by one or more spaces.
 pub fn words(alloc: Global, line: &[u8]) -> Result<Vec<&[u8]>, NoMemory>

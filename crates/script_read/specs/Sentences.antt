@@ -1,5 +1,5 @@
 -- The parts of a line, as the definitions see them.
-use Rattle.std.specs.Prelude.{ℕ, List, map, Option}
+use Rattle.std.specs.Prelude.{ℕ, List, map}
 use Rattle.std.specs.Borrow.{Bor}
 use Rattle.std.specs.Option.{option_map}
 use Rattle.dia_defs.specs.Reading.{Sentence}

@@ -1,6 +1,6 @@
 -- The statements of the definitions that the code's statements stand for.
 use Rattle.std.specs.Prelude.{map}
-use Rattle.dia_defs.specs.Scripts.{LocalOp, map_op, Form, lines_form, local_form, Action, print_action, Statement, line, act, Numbered}
+use Rattle.dia_defs.specs.Scripts.{map_op, Form, lines_form, local_form, Action, print_action, Statement, line, act, Numbered}
 use Rattle.dia_expr.specs.Exprs.{expr_in}
 use Rattle.script_read.specs.declared.statement.Form as forms
 use Rattle.script_read.specs.declared.statement.Form.TheVariants.{Lines, Map}

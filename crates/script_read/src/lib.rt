@@ -5,7 +5,11 @@
 //! definitions, and its statements through the words of `specs/Statements`.
 #![tactic(auto)]
 
+mod causes;
+mod known;
+mod line;
 mod names;
+mod reader;
 mod script;
 mod sentence;
 mod statement;

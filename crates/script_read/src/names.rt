@@ -27,9 +27,7 @@ pub(crate) fn is_name(word: &[u8]) -> bool
 {
     match word.split_first() {
         None => false,
-        Some((first, rest)) => {
-            is_lower(*first) && rest.len() <= 31 && are_name_bytes(rest)
-        }
+        Some((first, rest)) => { is_lower(*first) && rest.len() <= 31 && are_name_bytes(rest) }
     }
 }
 

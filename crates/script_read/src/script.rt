@@ -2,9 +2,8 @@
 ghost use Rattle.std.specs.Prelude.{◌≡◌, map};
 ghost use Rattle.script_read.specs.Statements.{numbered_in};
 
-use std::marker::Model;
-
 use crate::statement::Numbered;
+use std::marker::Model;
 
 /// An accepted script: its statements in order. Each names earlier lines alone.
 #[derive(Debug, Drop)]

@@ -1,4 +1,4 @@
-use Rattle.std.proofs.Common.{◌≡◌, ◌++◌, [], List, ℕ, map, filter, length}
+use Rattle.std.proofs.Common.{◌≡◌, ◌++◌, [], map, filter, length}
 use Rattle.dia_defs.specs.Pieces.{pieces_from, is_some_bytes, words_of}
 use Rattle.dia_text.proofs.split.words.Given as goal
 
