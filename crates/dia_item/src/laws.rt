@@ -5,33 +5,28 @@ ghost use Rattle.dia_item.specs.Laws.{HaveTheirKinds, HaveSpellings, AreSpelledO
 #[inline]
 pub fn rows_have_their_kinds()
     ensures { HaveTheirKinds }
-{
-}
+{}
 
 /// Cells in their limits have a spelling.
 #[inline]
 pub fn rows_have_spellings()
     ensures { HaveSpellings }
-{
-}
+{}
 
 /// A row has one list of kinds and one spelling.
 #[inline]
 pub fn rows_are_spelled_once()
     ensures { AreSpelledOnce }
-{
-}
+{}
 
 /// No row begins another row of the same kinds.
 #[inline]
 pub fn rows_are_no_prefixes()
     ensures { AreNoPrefixes }
-{
-}
+{}
 
 /// What a buffer or an owned row holds is read again as the same row, whatever bytes follow it.
 #[inline]
 pub fn rows_are_read_again()
     ensures { AreReadAgain }
-{
-}
+{}

@@ -2,10 +2,10 @@
 ghost use Rattle.std.specs.Prelude.{◌≡◌, ◌∷◌, [], ◌≤◌, length};
 ghost use Rattle.dia_defs.specs.Rows.{int, text, longest_text};
 
+use crate::{Field, Kind, Kinds, LONGEST_TEXT, OwnRow, RowBuf, RowRef, compare, read_row};
+use std::alloc::{AllocError, Global};
 use std::cmp::Ordering;
 use std::test::Fail;
-
-use crate::{compare, read_row, Field, Kind, Kinds, OwnRow, RowBuf, RowRef, LONGEST_TEXT};
 
 const A_AND_2: [u8; 13] = [1, 0, 0, 0, b'a', 2, 0, 0, 0, 0, 0, 0, 0];
 
@@ -30,13 +30,29 @@ fn fill(buffer: &mut RowBuf, t: &[u8], n: u64)
     buffer.push_int(n);
 }
 
+fn with_zeros(alloc: Global, front: &[u8]) -> Result<Vec<u8>, AllocError> {
+    let mut bytes = Vec::from_slice(alloc, front)?;
+    bytes.resize(2 * LONGEST_TEXT, 0)?;
+    Ok(bytes)
+}
+
 #[test]
 fn bytes_are_read_as_rows(rt: HostRuntime) -> Result<(), Fail> {
     let cases: [(&[Kind], &[u8], &[Field<'_>], usize); 4] = [
-        (&[Kind::Text, Kind::Int], &A_AND_2, &[Field::Text(b"a"), Field::Int(2)], 13),
+        (
+            &[Kind::Text, Kind::Int],
+            &A_AND_2,
+            &[Field::Text(b"a"), Field::Int(2)],
+            13,
+        ),
         (&[Kind::Text], &A_AND_2, &[Field::Text(b"a")], 5),
         (&[Kind::Text], &[0, 0, 0, 0], &[Field::Text(b"")], 4),
-        (&[Kind::Int], &[255; 8], &[Field::Int(18_446_744_073_709_551_615)], 8),
+        (
+            &[Kind::Int],
+            &[255; 8],
+            &[Field::Int(18_446_744_073_709_551_615)],
+            8,
+        ),
     ];
     for (kinds, bytes, fields, len) in cases {
         let kinds = Kinds::new(kinds).ok_or("kinds")?;
@@ -54,12 +70,9 @@ fn bytes_that_end_early_or_hold_a_long_text_are_no_row(rt: HostRuntime) -> Resul
     assert!(rt; read_row(&kinds, &A_AND_2[..12]).is_none());
 
     let text = Kinds::one(Kind::Text);
-    let mut long = vec![in rt.alloc(); 0u8; 4 + LONGEST_TEXT + 1]?;
     for (length, is_row) in [([0, 0, 1, 0], true), ([1, 0, 1, 0], false)] {
-        for (i, byte) in length.iter().enumerate() {
-            long[i] = *byte;
-        }
-        assert_eq!(rt; read_row(&text, long.as_slice()).is_some(), is_row);
+        let bytes = with_zeros(rt.alloc(), &length)?;
+        assert_eq!(rt; read_row(&text, bytes.as_slice()).is_some(), is_row);
     }
     Ok(())
 }
@@ -96,7 +109,12 @@ fn rows_are_built_copied_and_owned(rt: HostRuntime) -> Result<(), Fail> {
     copied.copy(built.row());
     assert_eq!(rt; copied.row().bytes(), A_AND_2.as_slice());
     copied.push_int(3);
-    assert!(rt; holds(copied.row(), &[Field::Text(b"a"), Field::Int(2), Field::Int(3)]));
+    assert!(rt;
+        holds(
+            copied.row(),
+            &[Field::Text(b"a"), Field::Int(2), Field::Int(3)]
+        )
+    );
 
     let owned = OwnRow::of(rt.alloc(), built.row())?;
     assert_eq!(rt; owned.row().bytes(), A_AND_2.as_slice());
