@@ -4,7 +4,7 @@ use Rattle.std.specs.Ordering.{ordering_then}
 use Rattle.std.specs.declared.cmp.Ordering.{Ordering}
 use Rattle.std.specs.declared.cmp.Ordering.TheVariants.{Less, Equal, Greater}
 use Rattle.dia_defs.specs.declared.kind.Kind.{Kind}
-use Rattle.dia_defs.specs.Rows.{Row, kind_of, kinds_of, row_cmp, cell_cmp}
+use Rattle.dia_defs.specs.Rows.{Row, kinds_of, row_cmp, cell_cmp}
 use Rattle.dia_item.proofs.TestLemmas.{and_split}
 use Rattle.dia_item.specs.Reading.{cell_len, cell_at, row_of, has_row, has_field}
 

@@ -10,7 +10,7 @@ use Rattle.dia_item.specs.Reading.{row_of}
 use Rattle.dia_item.specs.Sizes.{longest_field}
 use Rattle.dia_item.specs.Laws.{HaveTheirKinds, HaveSpellings, AreSpelledOnce, AreNoPrefixes, AreReadAgain}
 use Rattle.dia_item.proofs.Numbers.{length-bytes_of_u64, length-bytes_of_u32}
-use Rattle.dia_item.proofs.RowLemmas.{row_reads, row_is, kinds_are}
+use Rattle.dia_item.proofs.RowLemmas.{row_reads, kinds_are}
 
 -- the one spelling of a cell, and of a row
 cell_bytes : Cell → List ℕ

@@ -1,5 +1,5 @@
 -- What the encoding of rows keeps, for all kinds, bytes and rows.
-use Rattle.std.specs.Prelude.{◌≡◌, ◌≤◌, List, [], ◌++◌, ℕ, length, take, All}
+use Rattle.std.specs.Prelude.{◌≡◌, ◌≤◌, List, ◌++◌, ℕ, length, take, All}
 use Rattle.dia_defs.specs.declared.kind.Kind.{Kind}
 use Rattle.dia_defs.specs.Rows.{Row, IsRow, kinds_of, Fits}
 

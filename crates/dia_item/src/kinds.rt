@@ -21,8 +21,8 @@ impl Kinds {
 
     /// These kinds; None where there are none of them, or more than six.
     pub fn new(kinds: &[Kind]) -> Option<Kinds>
-        ensures some { IfSome result (λ k. kind_list k ≡ kinds.now) }
-        ensures none { IsSome result ↔ ((0 < length kinds.now) × (length kinds.now ≤ 6)) }
+        ensures list { IfSome result (λ k. kind_list k ≡ kinds.now) }
+        ensures some { IsSome result ↔ ((0 < length kinds.now) × (length kinds.now ≤ 6)) }
     {
         if kinds.is_empty() || kinds.len() > MOST_COLUMNS {
             return None;
