@@ -4,7 +4,7 @@ use Rattle.std.specs.Ordering.{ordering_then}
 use Rattle.std.specs.declared.cmp.Ordering.{Ordering}
 use Rattle.std.specs.declared.cmp.Ordering.TheVariants.{Less, Equal, Greater}
 use Rattle.dia_defs.specs.declared.kind.Kind.{Kind}
-use Rattle.dia_defs.specs.Rows.{Row, kind_of, kinds_of, row_cmp, cell_cmp}
+use Rattle.dia_defs.specs.Rows.{Row, kinds_of, row_cmp, cell_cmp}
 use Rattle.dia_item.proofs.TestLemmas.{and_split}
 use Rattle.dia_item.specs.Reading.{cell_len, cell_at, row_of, has_row, has_field}
 
@@ -21,12 +21,6 @@ key_has (suc k) [] bytes e = refl
 key_has (suc k) (kind ∷ kinds) bytes e =
     let p = and_split (has_field kind bytes) (has_row kinds (drop (cell_len kind bytes) bytes)) e in
     rw (p.0, key_has k kinds (drop (cell_len kind bytes) bytes) p.1) refl
-
--- the kinds of a key are the first kinds
-pub key_kinds : (k : ℕ) (row : Row) → kinds_of (take k row) ≡ take k (kinds_of row)
-key_kinds zero row = refl
-key_kinds (suc k) [] = refl
-key_kinds (suc k) (cell ∷ row) = ap (λ (kinds : List Kind). kind_of cell ∷ kinds) (key_kinds k row)
 
 -- a row whose first columns have these kinds has a row of them at its front
 pub key_front :
@@ -64,17 +58,11 @@ cmp_decided kind kinds a b r e n =
 -- a row whose first columns have the kinds of another row's key has that key's kinds at its front
 pub key_other :
     (k : ℕ) (key ks others : List Kind) (row : Row) (bytes : List ℕ) → key ≡ take k ks → kinds_of row ≡ ks
-    → kinds_of (row_of others bytes) ≡ others → has_row others bytes ≡ true → kinds_of (take k row) ≡ kinds_of (take k (row_of others bytes))
+    → kinds_of (row_of others bytes) ≡ others → has_row others bytes ≡ true → take k (kinds_of row) ≡ take k (kinds_of (row_of others bytes))
     → (has_row key bytes ≡ true) × (row_of key bytes ≡ take k (row_of others bytes))
 key_other k key ks others row bytes is held others_held has same =
-    let second : key ≡ take k others =
-    is
-    ∙ ap (λ (x : List Kind). take k x) (sym held)
-    ∙ sym (key_kinds k row)
-    ∙ same
-    ∙ key_kinds k (row_of others bytes)
-    ∙ ap (λ (x : List Kind). take k x) others_held in
-    key_front key k others bytes second has
+    let first : key ≡ take k (kinds_of row) = is ∙ ap (λ (x : List Kind). take k x) (sym held) in
+    key_front key k others bytes (first ∙ same ∙ ap (λ (x : List Kind). take k x) others_held) has
 
 pub cmp_same : (r : Ordering) (a b row other : Row) → r ≡ row_cmp a b → a ≡ row → b ≡ other → r ≡ row_cmp row other
 cmp_same r a b row other e f g = e ∙ ap (λ (x : Row). row_cmp x b) f ∙ ap (λ (x : Row). row_cmp row x) g

@@ -3,10 +3,13 @@ ghost use Rattle.std.specs.Prelude.{◌≤◌, ◌<◌};
 
 use dia_defs::Kind;
 
+/// How many columns a row has at most.
+pub const MOST_COLUMNS: usize = 6;
+
 /// From one to six kinds, those of a row's columns in order.
 #[derive(Clone, Copy)]
 pub struct Kinds {
-    all: [Kind; 6],
+    all: [Kind; MOST_COLUMNS],
     count: usize,
     ghost some: { 0 < count },
     ghost most: { count ≤ 6 },
@@ -18,13 +21,13 @@ impl Kinds {
 
     /// These kinds; None where there are none of them, or more than six.
     pub fn new(kinds: &[Kind]) -> Option<Kinds>
-        ensures some { IfSome result (λ k. kind_list k ≡ kinds.now) }
-        ensures none { IsSome result ↔ ((0 < length kinds.now) × (length kinds.now ≤ 6)) }
+        ensures list { IfSome result (λ k. kind_list k ≡ kinds.now) }
+        ensures some { IsSome result ↔ ((0 < length kinds.now) × (length kinds.now ≤ 6)) }
     {
-        if kinds.is_empty() || kinds.len() > 6 {
+        if kinds.is_empty() || kinds.len() > MOST_COLUMNS {
             return None;
         }
-        let mut all = [Kind::Int; 6];
+        let mut all = [Kind::Int; MOST_COLUMNS];
         all[..kinds.len()].copy_from_slice(kinds);
         Some(Kinds {
             all,
@@ -36,7 +39,7 @@ impl Kinds {
     pub fn one(kind: Kind) -> Kinds
         ensures { kind_list result ≡ kind ∷ [] }
     {
-        let mut all = [Kind::Int; 6];
+        let mut all = [Kind::Int; MOST_COLUMNS];
         all[0] = kind;
         Kinds { all, count: 1 }
     }

@@ -17,11 +17,17 @@ mod row_buf;
 mod row_ref;
 
 pub use dia_defs::Kind;
-pub use field::Field;
-pub use kinds::Kinds;
-pub use laws::{rows_are_no_prefixes, rows_are_spelled_once, rows_mean_one_row};
+pub use field::{Field, LONGEST_TEXT};
+pub use kinds::{Kinds, MOST_COLUMNS};
+pub use laws::{
+    rows_are_no_prefixes, rows_are_read_again, rows_are_spelled_once, rows_have_spellings,
+    rows_have_their_kinds,
+};
 pub use order::compare;
 pub use own_row::OwnRow;
 pub use reading::read_row;
-pub use row_buf::RowBuf;
+pub use row_buf::{LONGEST_ROW, RowBuf};
 pub use row_ref::RowRef;
+
+#[cfg(test)]
+mod tests;

@@ -1,5 +1,5 @@
 //! The order of rows.
-ghost use Rattle.std.specs.Prelude.{◌≡◌, ◌≤◌, true, length};
+ghost use Rattle.std.specs.Prelude.{◌≡◌, ◌≤◌, true, length, take};
 ghost use Rattle.dia_defs.specs.Rows.{kinds_of, key_of, cell_cmp, row_cmp};
 ghost use Rattle.dia_item.specs.Reading.{row_of, has_row};
 ghost use Rattle.dia_item.specs.Fields.{cell_of};
@@ -44,7 +44,7 @@ fn compare_fields(kinds: &[Kind], a: &[u8], b: &[u8]) -> Ordering
 /// bytes, a proper prefix first. Both rows are gone through once.
 pub fn compare(a: RowRef<'_>, b: RowRef<'_>, k: usize) -> Ordering
     requires columns { k ≤ length (row_in_ref a) }
-    requires kinds { kinds_of (key_of k (row_in_ref a)) ≡ kinds_of (key_of k (row_in_ref b)) }
+    requires kinds { take k (kinds_of (row_in_ref a)) ≡ take k (kinds_of (row_in_ref b)) }
     ensures { result ≡ row_cmp (key_of k (row_in_ref a.entry)) (key_of k (row_in_ref b.entry)) }
 {
     let kinds = a.kinds.list();

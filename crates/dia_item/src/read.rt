@@ -4,10 +4,8 @@ ghost use Rattle.dia_defs.specs.Rows.{Cell, Row, IsField, IsRow, Fits};
 ghost use Rattle.dia_item.specs.Reading.{u32_of, u64_of, cell_len, cell_at, row_of, has_field};
 ghost use Rattle.dia_item.specs.Fields.{cell_of};
 
-use crate::field::Field;
+use crate::field::{Field, LONGEST_TEXT};
 use dia_defs::Kind;
-
-const LONGEST_TEXT: usize = 65_536;
 
 #[inline]
 #[tactic(auto, unfolding(crate::specs::Reading::u32_of))]

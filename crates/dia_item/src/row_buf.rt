@@ -4,12 +4,16 @@ ghost use Rattle.dia_item.specs.KindList.{kind_list, kinds_in};
 ghost use Rattle.dia_item.specs.Lent.{row_in_ref};
 ghost use Rattle.dia_defs.specs.Rows.{int, text, longest_text, bytes_of_u64, bytes_of_u32};
 
-use crate::kinds::Kinds;
+use crate::field::LONGEST_TEXT;
+use crate::kinds::{Kinds, MOST_COLUMNS};
 use crate::row_ref::RowRef;
 use dia_defs::Kind;
 use dia_edge::NoMemory;
 use std::alloc::Global;
 use std::marker::Model;
+
+/// How many bytes the longest row has: of texts alone, each with the 4 bytes of its length.
+pub const LONGEST_ROW: usize = MOST_COLUMNS * (4 + LONGEST_TEXT);
 
 /// A row that is built column by column, in room that was had at its making: no later call takes memory.
 #[derive(Drop)]
@@ -29,9 +33,6 @@ impl Model for RowBuf {
 
     ghost invariant = { HasRoom };
 }
-
-// six fields of a text's 4 bytes of length and 65,536 of its own
-const LONGEST_ROW: usize = 393_240;
 
 fn kinds_and(kinds: &Option<Kinds>, kind: Kind) -> Kinds
     requires { length (kinds_in kinds.now) < 6 }
