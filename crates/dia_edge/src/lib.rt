@@ -8,9 +8,11 @@
 mod count;
 mod disk;
 mod gate;
+mod mem_disk;
 mod mem_shelf;
 mod mem_sink;
 mod name;
+mod open_gate;
 mod plan;
 mod refusals;
 mod shelf;
@@ -18,9 +20,11 @@ mod sink;
 
 pub use disk::Disk;
 pub use gate::Gate;
+pub use mem_disk::{Held, MemDisk};
 pub use mem_shelf::MemShelf;
 pub use mem_sink::MemSink;
 pub use name::Name;
+pub use open_gate::OpenGate;
 pub use refusals::{Failed, NoMemory};
 pub use shelf::Shelf;
 pub use sink::Sink;
