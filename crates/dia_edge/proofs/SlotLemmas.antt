@@ -1,5 +1,5 @@
 -- Slots in ascending order: where a number stands, and what a change there does to each slot.
-use Rattle.std.proofs.Common.{◌≡◌, ◌≢◌, ℕ, zero, suc, ◌+◌, ◌<◌, ◌≤◌, ◌==◌, Bool, true, false, List, [], ◌∷◌, ◌++◌, map, get_or, set, length, take, drop, Result, Ok, Err, MatchResult, insert, if◌then◌else◌, refl, sym, ap, ◌∙◌, arith, subst, get_or-set_same, add-one, ⊎_elim}
+use Rattle.std.proofs.Common.{◌≡◌, ◌≢◌, ℕ, zero, suc, ◌<◌, ◌≤◌, ◌==◌, true, List, [], ◌∷◌, map, get_or, set, length, Result, Ok, Err, insert, if◌then◌else◌, refl, sym, ap, ◌∙◌, arith, subst, get_or-set_same, add-one, ⊎_elim}
 use Rattle.std.proofs.lemmas.Bool.{ne_eqb, cases_lt}
 use Rattle.std.proofs.lemmas.Grind.{common_steps, elements}
 use Rattle.std.proofs.lemmas.List.{get_or-map, length-map, map-append, take-map, drop-map}
@@ -7,9 +7,8 @@ use Rattle.std.proofs.Math.Seq.{map-set_same}
 use Rattle.std.proofs.lemmas.List.{map-set}
 use Rattle.std.proofs.Math.ListN.{length-set}
 use Rattle.std.proofs.lemmas.List.Sorted.{searched}
-use Rattle.std.proofs.lemmas.List.Edits.{length-insert, get_or-insert_at, get_or-insert_below, get_or-insert_above}
-use Rattle.std.specs.List.Sorted.{IsStrictlyIncreasing, IsNonDecreasingBy, IsBinarySearchResult, IsSearchInRange}
-use Rattle.std.specs.Ordering.{nat_cmp, ordering_index}
+use Rattle.std.specs.List.Sorted.{IsStrictlyIncreasing, IsBinarySearchResult, IsSearchInRange}
+use Rattle.std.specs.Ordering.{nat_cmp}
 use Rattle.dia_edge.specs.Slots.{slots_of, pair_of, pairs_of, numbers, IsAscending, IsPlace, IsPut}
 use Rattle.dia_edge.specs.declared.mem_disk.Held.{Held}
 
@@ -19,14 +18,14 @@ lower xs j zero up before within = omega arith
 lower xs j (suc k) up before within =
     let step : get_or xs k 0 < get_or xs (suc k) 0 = rw add-one at (up k (omega arith)) in
     ⊎_elim (λ l. let rest : get_or xs j 0 < get_or xs k 0 = lower xs j k up l (omega arith) in omega arith)
-        (λ l. let here : j ≡ k = omega arith in rw here step)
-        (cases_lt j k)
+    (λ l. let here : j ≡ k = omega arith in rw here step)
+    (cases_lt j k)
 
 rising : (xs : List ℕ) → IsStrictlyIncreasing xs → (i j : ℕ) → i ≤ j → j < length xs → get_or xs i 0 ≤ get_or xs j 0
 rising xs up i j before within =
     ⊎_elim (λ l. let less : get_or xs i 0 < get_or xs j 0 = lower xs i j up l within in omega arith)
-        (λ (l : j ≤ i). let here : i ≡ j = omega arith in let flat : get_or xs j 0 ≤ get_or xs j 0 = omega arith in rw here flat)
-        (cases_lt i j)
+    (λ (l : j ≤ i). let here : i ≡ j = omega arith in let flat : get_or xs j 0 ≤ get_or xs j 0 = omega arith in rw here flat)
+    (cases_lt i j)
 
 same : (a : ℕ) → (a == a) ≡ true
 same a = grind (arith, common_steps)
@@ -36,11 +35,12 @@ keyed : {X : Type 0} (key : X → ℕ) (xs : List X) (some : X) (number : ℕ) (
 keyed key xs some number (Ok i) found within = λ d. rw (get_or-map key xs i some d within) (found some)
 keyed key xs some number (Err i) found within =
     λ up.
-        let parted = found (λ a b d le lt. rw (get_or-map key xs a d (key d) (omega arith), get_or-map key xs b d (key d) lt) at (up a b (key d) le (rw (length-map xs key) lt))) in
-        ((λ k d low high. rw (get_or-map key xs k some d (omega arith)) (parted.0 k some low high)),
-         λ k d low high.
-            let inside : k < length xs = rw (length-map xs key) at high in
-            rw (get_or-map key xs k some d inside) (parted.1 k some low inside))
+    let parted = found (λ a b d le lt. rw (get_or-map key xs a d (key d) (omega arith), get_or-map key xs b d (key d) lt) at (up a b (key d) le (rw (length-map xs key) lt))) in (
+      (λ k d low high. rw (get_or-map key xs k some d (omega arith)) (parted.0 k some low high)),
+      λ k d low high.
+          let inside : k < length xs = rw (length-map xs key) at high in
+          rw (get_or-map key xs k some d inside) (parted.1 k some low inside),
+    )
 
 -- what a binary search finds by a key whose values rise
 pub place_by_key : {X : Type 0} (key : X → ℕ) (xs : List X) (number : ℕ) (place : Result ℕ ℕ) → IsBinarySearchResult (λ y. nat_cmp (key y) number) xs place → IsSearchInRange place (length xs) → IsStrictlyIncreasing (map key xs) → IsPlace (map key xs) number place
@@ -48,7 +48,7 @@ place_by_key key [] number (Ok i) found within up = absurd (omega arith)
 place_by_key key [] number (Err i) found within up = (within, (λ k l. absurd (omega arith)), λ k l m. absurd (omega arith))
 place_by_key key (x ∷ xs) number place found within up =
     searched (map key (x ∷ xs)) number place (keyed key (x ∷ xs) x number place found within)
-        (rising (map key (x ∷ xs)) up)
+    (rising (map key (x ∷ xs)) up)
 
 -- other slots are as they were after an insertion
 pub inserted_others : (pairs : List (ℕ × List ℕ)) (i slot : ℕ) (bytes : List ℕ) (other : ℕ) → other ≢ slot → slots_of (insert pairs i (slot, bytes)) other ≡ slots_of pairs other
@@ -64,7 +64,7 @@ inserted [] (suc i) slot bytes within below = absurd (omega arith)
 inserted (pair ∷ pairs) (suc i) slot bytes within below =
     let first : pair.0 < slot = below 0 (omega arith) in
     rw (ne_eqb pair.0 slot (λ e. omega arith))
-        (inserted pairs i slot bytes (omega arith) (λ k l. below (suc k) (omega arith)))
+    (inserted pairs i slot bytes (omega arith) (λ k l. below (suc k) (omega arith)))
 
 -- the numbers still rise after an insertion between the lower and the higher ones
 pub inserted_rises : (xs : List ℕ) (i number : ℕ) → IsStrictlyIncreasing xs → i ≤ length xs → ((k : ℕ) → k < i → get_or xs k 0 < number) → ((k : ℕ) → i ≤ k → k < length xs → number < get_or xs k 0) → IsStrictlyIncreasing (insert xs i number)
@@ -85,14 +85,14 @@ slot_at (pair ∷ pairs) zero slot bytes below within at = rw (at, same slot) re
 slot_at (pair ∷ pairs) (suc i) slot bytes below within at =
     let first : pair.0 < slot = below 0 (omega arith) in
     rw (ne_eqb pair.0 slot (λ e. omega arith))
-        (slot_at pairs i slot bytes (λ k l. below (suc k) (omega arith)) (omega arith) at)
+    (slot_at pairs i slot bytes (λ k l. below (suc k) (omega arith)) (omega arith) at)
 
 -- a number that stands nowhere is a slot without bytes
 pub slot_absent : (pairs : List (ℕ × List ℕ)) (slot : ℕ) → ((k : ℕ) → k < length (numbers pairs) → get_or (numbers pairs) k 0 ≢ slot) → slots_of pairs slot ≡ []
 slot_absent [] slot nowhere = refl
 slot_absent (pair ∷ pairs) slot nowhere =
     rw (ne_eqb pair.0 slot (nowhere 0 (omega arith)))
-        (slot_absent pairs slot (λ k l. nowhere (suc k) (omega arith)))
+    (slot_absent pairs slot (λ k l. nowhere (suc k) (omega arith)))
 
 -- the numbers of the slots
 pub numbers_of : (held : List Held) → numbers (pairs_of held) ≡ map (λ one. one.slot) held
@@ -141,7 +141,7 @@ set_puts pairs i slot bytes up inside there =
     record {
       ascending = rises;
       set = found (set pairs i (slot, bytes)) i slot bytes rises (rw length-set within) (get_or-set_same pairs i (slot, bytes) (slot, bytes) within);
-      others = λ other differs. set_others pairs i slot bytes other differs there
+      others = λ other differs. set_others pairs i slot bytes other differs there;
     }
 
 -- where it doesn't stand, it is put
@@ -150,5 +150,5 @@ insert_puts pairs i slot bytes up inside below above =
     record {
       ascending = subst IsStrictlyIncreasing (sym (map-insert (λ pair. pair.0) pairs i (slot, bytes))) (inserted_rises (numbers pairs) i slot up inside below above);
       set = inserted pairs i slot bytes (rw length-numbers at inside) below;
-      others = λ other differs. inserted_others pairs i slot bytes other differs
+      others = λ other differs. inserted_others pairs i slot bytes other differs;
     }

@@ -1,8 +1,7 @@
 -- Files in memory: their names, as bytes, and what they hold.
-use Rattle.std.specs.Prelude.{ℕ, List, [], ◌∷◌, Option, Some, None, map, slice_get, unwrap_or, if◌then◌else◌, Vec}
+use Rattle.std.specs.Prelude.{ℕ, List, [], ◌∷◌, Some, None, map, slice_get, unwrap_or, if◌then◌else◌, Vec}
 use Rattle.std.specs.Option.{option_map}
 use Rattle.std.specs.Str.{bytes_eq}
-
 use Rattle.std.specs.declared.alloc.Global.{Global}
 use Rattle.dia_edge.specs.Shelves.{Holdings}
 

@@ -27,10 +27,10 @@ IsAscending pairs = IsStrictlyIncreasing (numbers pairs)
 abbrev pub IsPlace : List ℕ → ℕ → Result ℕ ℕ → Type 0
 IsPlace numbers number place =
     MatchResult place
-        (λ i. (i < length numbers) × (slice_index numbers i ≡ number))
-        (λ i. (i ≤ length numbers)
-            × ((k : ℕ) → k < i → slice_index numbers k < number)
-            × ((k : ℕ) → i ≤ k → k < length numbers → number < slice_index numbers k))
+    (λ i. (i < length numbers) × (slice_index numbers i ≡ number))
+    (λ i. (i ≤ length numbers)
+    × ((k : ℕ) → k < i → slice_index numbers k < number)
+    × ((k : ℕ) → i ≤ k → k < length numbers → number < slice_index numbers k))
 
 -- one slot was set, and the numbers rise
 pub record IsPut (before after : List (ℕ × List ℕ)) (slot : ℕ) (bytes : List ℕ) : Type 0 where

@@ -6,7 +6,9 @@
 #![tactic(auto)]
 
 mod count;
+mod dir_shelf;
 mod disk;
+mod file_disk;
 mod gate;
 mod mem_disk;
 mod mem_shelf;
@@ -17,8 +19,11 @@ mod plan;
 mod refusals;
 mod shelf;
 mod sink;
+mod std_sink;
 
+pub use dir_shelf::DirShelf;
 pub use disk::Disk;
+pub use file_disk::FileDisk;
 pub use gate::Gate;
 pub use mem_disk::{Held, MemDisk};
 pub use mem_shelf::MemShelf;
@@ -28,3 +33,4 @@ pub use open_gate::OpenGate;
 pub use refusals::{Failed, NoMemory};
 pub use shelf::Shelf;
 pub use sink::Sink;
+pub use std_sink::StdSink;

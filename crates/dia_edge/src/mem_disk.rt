@@ -162,12 +162,7 @@ fn set_at(held: &mut Vec<Held>, place: usize, slot: u64, bytes: Vec<u8>)
 }
 
 /// Puts the slot at this place, before those that stand there. For want of memory it changes nothing.
-fn insert_at(
-    held: &mut Vec<Held>,
-    place: usize,
-    slot: u64,
-    bytes: Vec<u8>,
-) -> Result<(), NoMemory>
+fn insert_at(held: &mut Vec<Held>, place: usize, slot: u64, bytes: Vec<u8>) -> Result<(), NoMemory>
     requires ascending { IsAscending (pairs_of held.old.items) }
     requires there { IsPlace (numbers (pairs_of held.old.items)) slot (Err place) }
     ensures ok { OnOk result (IsPut (pairs_of held.old.items) (pairs_of held.new.items) slot bytes.items) }

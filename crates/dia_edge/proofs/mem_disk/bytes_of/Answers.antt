@@ -7,9 +7,9 @@ pub returns-in-Ok : goal.returns-in-Ok
 returns-in-Ok c =
     let there = c.in-Ok.ensures in
     c.deref.ensures.value
-        ∙ ap (λ one. one.bytes.items) (sym c.index-held-place.is)
-        ∙ sym (found_held c.args.held.now c.in-Ok.place c.args.slot c.index-held-place.result c.requires there.0 there.1
-            c.index-held-place.is)
+    ∙ ap (λ one. one.bytes.items) (sym c.index-held-place.is)
+    ∙ sym (found_held c.args.held.now c.in-Ok.place c.args.slot c.index-held-place.result c.requires there.0 there.1
+    c.index-held-place.is)
 
 pub returns-in-Err : goal.returns-in-Err
 returns-in-Err c =
