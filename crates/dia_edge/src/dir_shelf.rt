@@ -1,5 +1,8 @@
 //! The files below the current folder as a shelf.
-ghost use Rattle.std.specs.Prelude.{◌≡◌, ◌≤◌, Option, None, false, IfOk, length};
+ghost use Rattle.std.specs.Prelude.{◌≡◌, ◌≤◌, Option, None, Ok, true, false, OnErr, IfOk, length};
+ghost use Rattle.std.specs.Path.{path_components};
+ghost use Rattle.dia_edge.specs.Counts.{HasRisen};
+ghost use Rattle.dia_edge.specs.Files.{IsOutside, has_parent};
 
 use crate::count::Count;
 use crate::refusals::Failed;
@@ -7,6 +10,7 @@ use crate::shelf::Shelf;
 use std::fs::{File, OpenFile};
 use std::io;
 use std::io::{ErrorKind, Read};
+use std::path::Path;
 use std::rt::Files;
 
 /// The files below the current folder. Symbolic links are followed.
@@ -43,9 +47,13 @@ impl<R: Files> Shelf for DirShelf<R> {
 
     ghost faults = { λ shelf. shelf.faults.number };
 
-    fn open(&mut self, name: &str) -> Result<bool, Failed> {
+    fn open(&mut self, name: &str) -> Result<bool, Failed>
+        ensures rose { OnErr result (HasRisen self.old.faults.number self.new.faults.number) }
+        ensures counts { self.old.faults.number ≤ self.new.faults.number }
+        ensures outside { IsOutside name.now → result ≡ Ok false }
+    {
         self.opened = None;
-        if !can_name_input(name) {
+        if is_outside(name) {
             return Ok(false);
         }
         match open_input(&self.rt, name) {
@@ -73,12 +81,23 @@ impl<R: Files> Shelf for DirShelf<R> {
     }
 }
 
-/// Whether the name stands for something below the current folder.
-fn can_name_input(name: &str) -> bool {
-    !name.is_empty()
-        && !name.starts_with('/')
-        && !name.contains('\0')
-        && name.split('/').all(|component| component != "..")
+/// Whether the name stands for nothing below the current folder.
+fn is_outside(name: &str) -> bool
+    ensures { IsOutside name.now → result ≡ true }
+{
+    name.is_empty() || name.contains('\0') || Path::new(name).is_absolute() || climbs(name)
+}
+
+/// Whether a component of the name is `..`.
+fn climbs(name: &str) -> bool
+    ensures { result ≡ has_parent (path_components name.now) }
+{
+    for component in Path::new(name).components() {
+        if component.as_os_str() == ".." {
+            return true;
+        }
+    }
+    false
 }
 
 /// Whether the error says that there is no such file.
