@@ -1,5 +1,5 @@
 -- What a look-up finds, and what a read leaves.
-use Rattle.std.proofs.Common.{◌≡◌, ℕ, ◌+◌, ◌<◌, List, Option, Some, Bool, true, get_or, length, take, drop, drop-cons, sym, ◌∙◌, ap, refl, Vec, ◌++◌}
+use Rattle.std.proofs.Common.{◌≡◌, ℕ, ◌+◌, ◌<◌, List, Some, true, get_or, length, take, drop, drop-cons, sym, ◌∙◌, ap, refl, Vec, ◌++◌}
 use Rattle.std.proofs.lemmas.List.{drop-drop, take-append-drop}
 use Rattle.std.proofs.lemmas.Option.{slice_get-get_or}
 use Rattle.std.specs.declared.alloc.Global.{Global}
@@ -14,7 +14,8 @@ found_at files place name file within is same =
 
 -- of what was left, a front was given, and the others are left
 pub gives_front : (bytes left piece : List ℕ) (from count : ℕ) → left ≡ drop from bytes → piece ≡ take count left → GivesFront (Some left) piece (Some (drop (from + count) bytes))
-gives_front bytes left piece from count is front =
-    (drop count left,
-     sym (take-append-drop count left) ∙ ap (λ p. p ++ drop count left) (sym front),
-     ap Some (sym (drop-drop count from bytes) ∙ ap (drop count) (sym is)))
+gives_front bytes left piece from count is front = (
+  drop count left,
+  sym (take-append-drop count left) ∙ ap (λ p. p ++ drop count left) (sym front),
+  ap Some (sym (drop-drop count from bytes) ∙ ap (drop count) (sym is)),
+)

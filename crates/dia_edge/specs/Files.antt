@@ -1,8 +1,9 @@
 -- Files in memory: their names, as bytes, and what they hold.
-use Rattle.std.specs.Prelude.{ℕ, List, [], ◌∷◌, Option, Some, None, map, slice_get, unwrap_or, if◌then◌else◌, Vec}
+use Rattle.std.specs.Prelude.{◌≡◌, ◌⊎◌, Bool, true, ℕ, List, [], ◌∷◌, Some, None, map, slice_get, unwrap_or, if◌then◌else◌, Vec}
+use Rattle.std.specs.List.{list_any}
+use Rattle.std.specs.Path.{IsAbsolute, path_components, parent_dir}
 use Rattle.std.specs.Option.{option_map}
 use Rattle.std.specs.Str.{bytes_eq}
-
 use Rattle.std.specs.declared.alloc.Global.{Global}
 use Rattle.dia_edge.specs.Shelves.{Holdings}
 
@@ -25,3 +26,11 @@ held_under (file ∷ files) name = if bytes_eq file.0 name then Some file.1 else
 -- what the file at this place holds; past the last there is nothing
 abbrev pub bytes_at : RawFiles → ℕ → List ℕ
 bytes_at files place = unwrap_or (option_map (λ file. file.1.items) (slice_get files place)) []
+
+-- some component of the name is `..`
+abbrev pub has_parent : List (List ℕ) → Bool
+has_parent = list_any (λ component. bytes_eq component parent_dir)
+
+-- the name stands for nothing below a folder: it is empty, begins at the root, or climbs
+abbrev pub IsOutside : List ℕ → Type 0
+IsOutside name = (name ≡ []) ⊎ (IsAbsolute name ⊎ (has_parent (path_components name) ≡ true))

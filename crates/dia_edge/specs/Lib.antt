@@ -4,4 +4,5 @@ pub mod Sinks
 pub mod Disks
 pub mod Files
 pub mod Plans
+pub mod Slots
 pub mod Memory

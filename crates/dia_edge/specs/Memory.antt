@@ -19,3 +19,10 @@ pub record Shelved : Type 0 where
   pub left : List ℕ
   pub step : ℕ
   pub plan : Plan
+
+-- a disk in memory: the slots that were written with what each holds, the count of writes, and the calls that are
+-- to fail
+pub record Kept : Type 0 where
+  pub held : List (ℕ × List ℕ)
+  pub writes : ℕ
+  pub plan : Plan

@@ -6,21 +6,34 @@
 #![tactic(auto)]
 
 mod count;
+mod dir_shelf;
 mod disk;
+mod file_disk;
 mod gate;
+mod mem_disk;
 mod mem_shelf;
 mod mem_sink;
 mod name;
+mod open_gate;
 mod plan;
 mod refusals;
 mod shelf;
 mod sink;
+mod std_sink;
 
+pub use dir_shelf::DirShelf;
 pub use disk::Disk;
+pub use file_disk::FileDisk;
 pub use gate::Gate;
+pub use mem_disk::{Held, MemDisk};
 pub use mem_shelf::MemShelf;
 pub use mem_sink::MemSink;
 pub use name::Name;
+pub use open_gate::OpenGate;
 pub use refusals::{Failed, NoMemory};
 pub use shelf::Shelf;
 pub use sink::Sink;
+pub use std_sink::StdSink;
+
+#[cfg(test)]
+mod tests;

@@ -32,10 +32,11 @@ impl Model for MemShelf {
     ghost Value = { Shelved };
 
     ghost view = { λ shelf. record {
-        files = files_of shelf.files.items;
-        left = drop shelf.from (bytes_at shelf.files.items shelf.place);
-        step = shelf.step;
-        plan = shelf.plan } };
+      files = files_of shelf.files.items;
+      left = drop shelf.from (bytes_at shelf.files.items shelf.place);
+      step = shelf.step;
+      plan = shelf.plan;
+    } };
 
     ghost invariant = { λ shelf. 0 < shelf.step };
 }

@@ -9,5 +9,5 @@ returns-clause-front c =
     let left : c.args.self.now.left ≡ drop c.self.inside.from held = ap (λ shelf. shelf.left) (sym c.self.view_is) in
     let same : c.left_at-left.result.now ≡ c.args.self.now.left = cc in
     gives_front held c.args.self.now.left (take c.copy_front-count.result c.copy_front-count.new.into)
-        c.self.inside.from c.copy_front-count.result left
-        (c.copy_front-count.ensures.front ∙ ap (take c.copy_front-count.result) same)
+    c.self.inside.from c.copy_front-count.result left
+    (c.copy_front-count.ensures.front ∙ ap (take c.copy_front-count.result) same)

@@ -1,0 +1,176 @@
+//! What no clause says: that the calls succeed where nothing fails, and what real files and streams do.
+
+use super::*;
+use std::test::Fail;
+use std::{env, fs, process};
+
+/// A name in the folder for temporary files that no other test has, with that folder as the current one.
+fn scratch(rt: &HostRuntime, purpose: &str) -> Result<Name, Fail> {
+    env::set_current_dir(rt, env::temp_dir(rt)?)?;
+    let id = process::id(rt.process());
+    let text = format!(in rt.alloc(); "dia_edge_{purpose}_{id}")?;
+    Ok(Name::of(rt.alloc(), text.as_str())?)
+}
+
+#[test]
+fn a_name_keeps_its_text(rt: HostRuntime) -> Result<(), Fail> {
+    let name = Name::of(rt.alloc(), "naïve")?;
+    assert_eq!(rt; name.copy()?.text(), "naïve");
+    Ok(())
+}
+
+#[test]
+fn a_sink_in_memory_takes_whole_pieces(rt: HostRuntime) -> Result<(), Fail> {
+    let mut sink = MemSink::new(rt.alloc(), [2, 4].to_vec(rt.alloc())?);
+    for (piece, answer) in [
+        ("ab", Ok(())),
+        ("cd", Err(Failed)),
+        ("ef", Ok(())),
+        ("gh", Err(Failed)),
+    ] {
+        assert_eq!(rt; sink.put(piece.as_bytes()), answer, "at {piece}");
+    }
+    assert_eq!(rt; sink.bytes(), b"abef".as_slice());
+    assert_eq!(rt; sink.fault_count(), 2);
+    Ok(())
+}
+
+#[test]
+fn a_shelf_in_memory_is_read_in_steps(rt: HostRuntime) -> Result<(), Fail> {
+    let alloc = rt.alloc();
+    let mut files = Vec::new(alloc);
+    files.push((Name::of(alloc, "a")?, b"12345".to_vec(alloc)?))?;
+    files.push((Name::of(alloc, "a")?, b"6".to_vec(alloc)?))?;
+    let mut shelf = MemShelf::new(files, 3, [4].to_vec(alloc)?);
+    let mut into = [0u8; 8];
+    assert_eq!(rt; shelf.read(&mut into), Ok(0));
+    assert_eq!(rt; shelf.open("a"), Ok(true));
+    assert_eq!(rt; shelf.read(&mut into), Ok(3));
+    assert_eq!(rt; &into[..3], b"123".as_slice());
+    assert_eq!(rt; shelf.read(&mut into), Err(Failed));
+    assert_eq!(rt; shelf.read(&mut into), Ok(2));
+    assert_eq!(rt; &into[..2], b"45".as_slice());
+    assert_eq!(rt; shelf.read(&mut into), Ok(0));
+    assert_eq!(rt; shelf.open("b"), Ok(false));
+    assert_eq!(rt; shelf.fault_count(), 1);
+    Ok(())
+}
+
+#[test]
+fn a_disk_in_memory_keeps_its_slots_in_order(rt: HostRuntime) -> Result<(), Fail> {
+    let alloc = rt.alloc();
+    let mut disk = MemDisk::new(alloc, [4].to_vec(alloc)?);
+    for (slot, bytes, answer) in [
+        (7, "seven", Ok(())),
+        (2, "two", Ok(())),
+        (7, "SEVEN", Ok(())),
+        (2, "TWO", Err(Failed)),
+        (9, "nine", Ok(())),
+    ] {
+        assert_eq!(rt; disk.write(slot, bytes.as_bytes()), answer, "at {bytes}");
+    }
+    let mut held = Vec::new(alloc);
+    for Held { slot, bytes } in disk.held() {
+        held.push((*slot, bytes.len()))?;
+        held.push((*slot, usize::from(bytes.first().copied().unwrap_or(0))))?;
+    }
+    let want = [(2, 3), (2, 116), (7, 5), (7, 83), (9, 4), (9, 110)];
+    assert_eq!(rt; held.as_slice(), want.as_slice());
+    assert_eq!(rt; (disk.write_count(), disk.fault_count()), (4, 1));
+    Ok(())
+}
+
+#[test]
+fn a_slot_in_memory_is_read_from_its_front(rt: HostRuntime) -> Result<(), Fail> {
+    let mut disk = MemDisk::new(rt.alloc(), [3].to_vec(rt.alloc())?);
+    let mut into = [0u8; 2];
+    disk.write(5, b"abc")?;
+    disk.read(5, &mut into)?;
+    assert_eq!(rt; into, *b"ab");
+    assert_eq!(rt; disk.read(5, &mut into), Err(Failed));
+    assert_eq!(rt; (disk.write_count(), disk.fault_count()), (1, 1));
+    Ok(())
+}
+
+#[test]
+fn an_open_gate_lets_through(rt: HostRuntime) {
+    OpenGate.at(&rt, 0, 1);
+}
+
+#[test]
+fn a_folder_gives_its_files(rt: HostRuntime) -> Result<(), Fail> {
+    let name = scratch(&rt, "input")?;
+    let folder = scratch(&rt, "folder")?;
+    fs::write(&rt, name.text(), "abcde")?;
+    fs::create_dir(&rt, folder.text())?;
+    let mut shelf = DirShelf::new(rt);
+    let mut into = [0u8; 8];
+    assert_eq!(rt; shelf.read(&mut into), Ok(0), "before the first open");
+    assert_eq!(rt; shelf.open(name.text()), Ok(true));
+    assert_eq!(rt; shelf.read(&mut into), Ok(5));
+    assert_eq!(rt; &into[..5], b"abcde".as_slice());
+    assert_eq!(rt; shelf.read(&mut into), Ok(0));
+    for absent in [
+        "",
+        "/etc/passwd",
+        "..",
+        "a/../b",
+        "dia_edge_nowhere",
+        "a\0b",
+    ] {
+        assert_eq!(rt; shelf.open(absent), Ok(false), "at {absent:?}");
+        assert_eq!(rt; shelf.read(&mut into), Ok(0), "at {absent:?}");
+    }
+    assert_eq!(rt; shelf.open(folder.text()), Err(Failed));
+    assert_eq!(rt; shelf.fault_count(), 1);
+    fs::remove_file(&rt, name.text())?;
+    fs::remove_dir(&rt, folder.text())?;
+    Ok(())
+}
+
+#[test]
+fn the_standard_streams_take_pieces(rt: HostRuntime) {
+    let mut out = StdSink::out(rt);
+    let mut err = StdSink::err(rt);
+    assert_eq!(rt; out.put(b"to standard output\n"), Ok(()));
+    assert_eq!(rt; err.put(b"to standard error\n"), Ok(()));
+    assert_eq!(rt; (out.fault_count(), err.fault_count()), (0, 0));
+}
+
+#[test]
+fn a_file_keeps_slots_and_loses_its_name(rt: HostRuntime) -> Result<(), Fail> {
+    let name = scratch(&rt, "disk")?;
+    let mut disk = FileDisk::new(rt, name.copy()?);
+    let mut into = [0u8; 3];
+    assert_eq!(rt;
+        disk.read(0, &mut into),
+        Err(Failed),
+        "before the first write"
+    );
+    assert_eq!(rt; disk.write(2, b"two"), Ok(()));
+    assert_eq!(rt; disk.write(0, b"zero"), Ok(()));
+    assert_eq!(rt; fs::exists(&rt, name.text())?, false);
+    assert_eq!(rt; disk.read(2, &mut into), Ok(()));
+    assert_eq!(rt; into, *b"two");
+    assert_eq!(rt; disk.read(0, &mut into), Ok(()));
+    assert_eq!(rt; into, *b"zer");
+    for (slot, why) in [(3, "past the end"), (1 << 43, "at byte 2^63")] {
+        assert_eq!(rt; disk.read(slot, &mut into), Err(Failed), "{why}");
+    }
+    assert_eq!(rt; disk.write(1 << 43, b"far"), Err(Failed));
+    assert_eq!(rt; (disk.write_count(), disk.fault_count()), (2, 4));
+    Ok(())
+}
+
+#[test]
+fn a_file_that_is_there_stays(rt: HostRuntime) -> Result<(), Fail> {
+    let name = scratch(&rt, "taken")?;
+    fs::write(&rt, name.text(), "somebody's")?;
+    let mut disk = FileDisk::new(rt, name.copy()?);
+    assert_eq!(rt; disk.write(0, b"zero"), Err(Failed));
+    assert_eq!(rt; (disk.write_count(), disk.fault_count()), (0, 1));
+    let kept = fs::read_to_string(&rt, name.text())?;
+    assert_eq!(rt; kept.as_str(), "somebody's");
+    fs::remove_file(&rt, name.text())?;
+    Ok(())
+}
