@@ -1,0 +1,93 @@
+//! A block of encoded rows.
+ghost use Rattle.std.specs.Prelude.{◌≡◌, ◌+◌, ◌≤◌, ◌++◌, ◌∷◌, [], length, IfOk, OnOk, OnErr, vec_len, vec_capacity};
+ghost use Rattle.dia_defs.specs.Rows.{longest_text, bytes_of_u32};
+ghost use Rattle.dia_defs.specs.Pieces.{line_row};
+
+use std::alloc::Global;
+use std::marker::Model;
+
+use dia_edge::NoMemory;
+
+// how many bytes a block has room for
+const BLOCK: usize = 1_048_576;
+
+/// Rows of one text each, one after the other in one buffer. Contracts see the list of the rows.
+#[derive(Drop)]
+pub(crate) struct Block {
+    pub(crate) bytes: Vec<u8>,
+    pub(crate) rows: usize,
+}
+
+impl Model for Block {
+    ghost use Rattle.std.specs.Prelude.{List};
+    ghost use Rattle.dia_defs.specs.Rows.{Row};
+    ghost use Rattle.dia_lines.specs.Texts.{rows_from, HoldsRows};
+
+    ghost Value = { List Row };
+
+    ghost view = { λ b. rows_from b.rows b.bytes.items };
+
+    ghost invariant = { λ b. HoldsRows b.rows b.bytes.items };
+}
+
+// Bytes that there is room for.
+#[inline]
+fn append(bytes: &mut Vec<u8>, more: &[u8])
+    requires { vec_len bytes.old + length more.now ≤ vec_capacity bytes.old }
+    ensures items { bytes.new.items ≡ bytes.old.items ++ more.now }
+    ensures len { vec_len bytes.new ≡ vec_len bytes.old + length more.now }
+    ensures capacity { vec_capacity bytes.old ≤ vec_capacity bytes.new }
+{
+    let done = bytes.extend_from_slice(more);
+    if done.is_err() {
+        unreachable!()
+    }
+}
+
+// The row of the text that is `front` and then `back`, where there is memory for it.
+#[inline]
+#[tactic(auto, unfolding(dia_defs::specs::Rows::bytes_of_u32))]
+fn append_row(bytes: &mut Vec<u8>, front: &[u8], back: &[u8]) -> Result<(), NoMemory>
+    requires { length front.now + length back.now ≤ longest_text }
+    ensures ok { OnOk result (bytes.new.items ≡ bytes.old.items ++ (bytes_of_u32 (length front.now + length back.now) ++ (front.now ++ back.now))) }
+    ensures err { OnErr result (bytes.new.items ≡ bytes.old.items) }
+{
+    let len = front.len() + back.len();
+    bytes.reserve(4 + len)?;
+    append(bytes, &(len as u32).to_le_bytes());
+    append(bytes, front);
+    append(bytes, back);
+    Ok(())
+}
+
+impl Block {
+    /// A block with no rows, and room.
+    #[tactic(auto, unfolding(crate::specs::Texts::rows_from))]
+    pub(crate) fn new(alloc: Global) -> Result<Block, NoMemory>
+        ensures { IfOk result (λ block. block ≡ []) }
+    {
+        Ok(Block {
+            bytes: Vec::with_capacity(alloc, BLOCK)?,
+            rows: 0,
+        })
+    }
+
+    /// Whether the block has room for a row of a text of this length. Nothing rests on it but where a row goes.
+    pub(crate) fn has_room(&self, len: usize) -> bool
+        requires { len ≤ longest_text }
+    {
+        self.bytes.capacity() - self.bytes.len() >= 4 + len
+    }
+
+    /// One more row, of the text that is `front` and then `back`.
+    #[inline]
+    pub(crate) fn push(&mut self, front: &[u8], back: &[u8]) -> Result<(), NoMemory>
+        requires { length front.now + length back.now ≤ longest_text }
+        ensures ok { OnOk result (self.new ≡ self.old ++ line_row (front.now ++ back.now) ∷ []) }
+        ensures err { OnErr result (self.new ≡ self.old) }
+    {
+        append_row(&mut self.bytes, front, back)?;
+        self.rows += 1;
+        Ok(())
+    }
+}
