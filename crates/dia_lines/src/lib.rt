@@ -6,6 +6,7 @@
 
 mod block;
 mod place;
+mod taker;
 mod iter;
 mod line_rows;
 

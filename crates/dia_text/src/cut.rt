@@ -1,6 +1,7 @@
 //! The first piece of bytes.
 ghost use Rattle.std.specs.Prelude.{◌≡◌, ℕ, ◌+◌, ◌<◌, ◌≤◌, List, [], ◌∷◌, ◌++◌, length, take, drop, IfSome, MatchOption};
-ghost use Rattle.dia_defs.specs.Pieces.{pieces_from, last_piece};
+ghost use Rattle.dia_defs.specs.Pieces.{pieces_from};
+ghost use Rattle.dia_text.specs.Unbroken.{IsUnbroken};
 
 use memchr::memchr;
 
@@ -8,11 +9,9 @@ use memchr::memchr;
 #[inline]
 pub fn find_separator(separator: u8, bytes: &[u8]) -> Option<usize>
     ensures within { IfSome result (λ i. i < length bytes.now) }
-    // The bytes before it end the piece that began with `run`, and those behind it are cut anew.
-    ensures pieces { MatchOption result
-        ((run : List ℕ) → pieces_from separator run bytes.now ≡ last_piece (run ++ bytes.now))
-        (λ i. (run : List ℕ) → pieces_from separator run bytes.now
-        ≡ (run ++ take i bytes.now) ∷ pieces_from separator [] (drop (i + 1) bytes.now)) }
+    // The bytes before it, or all where there is none, go on with the piece that they come to.
+    ensures unbroken { MatchOption result (IsUnbroken separator bytes.now) (λ i. IsUnbroken separator (take i bytes.now)) }
+    ensures ends { IfSome result (λ i. take (i + 1) bytes.now ≡ take i bytes.now ++ separator ∷ []) }
 {
     memchr(separator, bytes)
 }
