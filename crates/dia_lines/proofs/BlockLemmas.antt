@@ -1,5 +1,5 @@
 -- The rows of blocks.
-use Rattle.std.proofs.Common.{◌≡◌, List, [], ◌∷◌, ◌++◌, refl, sym, ap, ◌∙◌, append_assoc, append-nil}
+use Rattle.std.proofs.Common.{◌≡◌, List, [], ◌∷◌, ◌++◌, sym, ap, ◌∙◌, append_assoc, append-nil}
 use Rattle.dia_defs.specs.Rows.{Row}
 use Rattle.dia_lines.specs.Blocks.{rows_of_blocks}
 

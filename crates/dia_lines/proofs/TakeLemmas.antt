@@ -1,5 +1,5 @@
 -- Lines that are taken piece by piece.
-use Rattle.std.proofs.Common.{◌≡◌, ℕ, suc, ◌+◌, ◌<◌, ◌≤◌, Bool, true, List, [], ◌∷◌, ◌++◌, length, map, refl, sym, ap, ◌∙◌, subst, arith, append_assoc, append-nil, length-append}
+use Rattle.std.proofs.Common.{◌≡◌, ℕ, ◌+◌, ◌<◌, ◌≤◌, true, List, [], ◌∷◌, ◌++◌, length, map, refl, sym, ap, ◌∙◌, subst, arith, append_assoc, append-nil, length-append}
 use Rattle.std.proofs.lemmas.List.{map-append}
 use Rattle.std.proofs.lemmas.Bool.{and_parts, and_from, le-leb}
 use Rattle.std.specs.List.{list_all}
@@ -11,7 +11,7 @@ use Rattle.dia_lines.specs.Taking.{is_text, AreTaken, HasTaken, IsLong, IsTakeRe
 use Rattle.dia_lines.specs.declared.taker.Taker.{Taker}
 use Rattle.dia_lines.specs.declared.taker.TakeErr as errors
 
-list_all-push : (lines : List (List ℕ)) (line : List ℕ) → list_all is_text lines ≡ true → is_text line ≡ true → list_all is_text (lines ++ line ∷ []) ≡ true
+pub list_all-push : (lines : List (List ℕ)) (line : List ℕ) → list_all is_text lines ≡ true → is_text line ≡ true → list_all is_text (lines ++ line ∷ []) ≡ true
 list_all-push [] line all is = and_from (is_text line) true is refl
 list_all-push (l ∷ lines) line all is =
     let parts = and_parts (is_text l) (list_all is_text lines) all in
@@ -20,9 +20,11 @@ list_all-push (l ∷ lines) line all is =
 -- nothing was taken
 pub taken_none : (rows : List Row) (lines : ℕ) (run : List ℕ) → rows ≡ [] → lines ≡ 0 → run ≡ [] → AreTaken rows lines run []
 taken_none rows lines run no_rows no_lines no_run = record {
-  done = []; ended = no_rows; count = no_lines;
+  done = [];
+  ended = no_rows;
+  count = no_lines;
   pieces = λ more. ap (λ (r : List ℕ). pieces_from line_feed r more) no_run;
-  texts = refl
+  texts = refl;
 }
 
 -- a line has ended
@@ -38,39 +40,46 @@ taken_line rows more_rows lines more_lines run rest seen bytes h unbroken short 
       ended = onto ∙ ap (λ (rs : List Row). rs ++ line_row line ∷ []) h.ended ∙ sym (map-append line_row h.done (line ∷ []));
       count = (let more = length-append h.done (line ∷ []) in omega (arith, h.count));
       pieces = λ more.
-        append_assoc h.done (line ∷ []) (pieces_from line_feed rest more)
-        ∙ ap (λ (r : List ℕ). h.done ++ (line ∷ pieces_from line_feed r more)) none
-        ∙ ap (λ (ps : List (List ℕ)). h.done ++ ps) (sym (unbroken run (line_feed ∷ more) ∙ pieces-at line_feed line more))
-        ∙ h.pieces (bytes ++ (line_feed ∷ more))
-        ∙ ap lines_of (ap (λ (xs : List ℕ). seen ++ xs) (sym (append_assoc bytes (line_feed ∷ []) more)) ∙ sym (append_assoc seen (bytes ++ line_feed ∷ []) more));
-      texts = list_all-push h.done line h.texts (le-leb (length line) longest_text (omega arith))
+          append_assoc h.done (line ∷ []) (pieces_from line_feed rest more)
+          ∙ ap (λ (r : List ℕ). h.done ++ (line ∷ pieces_from line_feed r more)) none
+          ∙ ap (λ (ps : List (List ℕ)). h.done ++ ps) (sym (unbroken run (line_feed ∷ more) ∙ pieces-at line_feed line more))
+          ∙ h.pieces (bytes ++ (line_feed ∷ more))
+          ∙ ap lines_of (ap (λ (xs : List ℕ). seen ++ xs) (sym (append_assoc bytes (line_feed ∷ []) more)) ∙ sym (append_assoc seen (bytes ++ line_feed ∷ []) more));
+      texts = list_all-push h.done line h.texts (le-leb (length line) longest_text (omega arith));
     }
 
 -- a line goes on
 pub taken_more : (rows : List Row) (lines : ℕ) (run longer seen bytes : List ℕ) → AreTaken rows lines run seen → IsUnbroken line_feed bytes
     → longer ≡ run ++ bytes → AreTaken rows lines longer (seen ++ bytes)
 taken_more rows lines run longer seen bytes h unbroken onto = record {
-  done = h.done; ended = h.ended; count = h.count;
+  done = h.done;
+  ended = h.ended;
+  count = h.count;
   pieces = λ more.
-    ap (λ (r : List ℕ). h.done ++ pieces_from line_feed r more) onto
-    ∙ ap (λ (ps : List (List ℕ)). h.done ++ ps) (sym (unbroken run more))
-    ∙ h.pieces (bytes ++ more) ∙ ap lines_of (sym (append_assoc seen bytes more));
-  texts = h.texts
+      ap (λ (r : List ℕ). h.done ++ pieces_from line_feed r more) onto
+      ∙ ap (λ (ps : List (List ℕ)). h.done ++ ps) (sym (unbroken run more))
+      ∙ h.pieces (bytes ++ more) ∙ ap lines_of (sym (append_assoc seen bytes more));
+  texts = h.texts;
 }
 
 -- a line is too long
 pub taken_long : (rows : List Row) (lines : ℕ) (run seen bytes : List ℕ) → AreTaken rows lines run seen → IsUnbroken line_feed bytes
     → longest_text < length run + length bytes → IsLong (lines + 1) (seen ++ bytes)
 taken_long rows lines run seen bytes h unbroken long = record {
-  done = h.done; count = ap (λ (n : ℕ). n + 1) h.count; texts = h.texts;
+  done = h.done;
+  count = ap (λ (n : ℕ). n + 1) h.count;
+  texts = h.texts;
   pieces = λ more.
-    let line = run ++ bytes in
-    let len = length-append run bytes in
-    let begun = pieces-begin line_feed line more (omega arith) in
-    let whole = length-append line begun.0 in
-    (line ++ begun.0, begun.1, omega arith,
-     ap lines_of (append_assoc seen bytes more) ∙ sym (h.pieces (bytes ++ more))
-     ∙ ap (λ (ps : List (List ℕ)). h.done ++ ps) (unbroken run more ∙ begun.2))
+      let line = run ++ bytes in
+      let len = length-append run bytes in
+      let begun = pieces-begin line_feed line more (omega arith) in
+      let whole = length-append line begun.0 in (
+        line ++ begun.0,
+        begun.1,
+        omega arith,
+        ap lines_of (append_assoc seen bytes more) ∙ sym (h.pieces (bytes ++ more))
+            ∙ ap (λ (ps : List (List ℕ)). h.done ++ ps) (unbroken run more ∙ begun.2),
+      );
 }
 
 pub consumes_trans : (t u v : Taker) (bytes rest later : List ℕ) → Consumes t u bytes rest → Consumes u v rest later → Consumes t v bytes later
@@ -78,8 +87,8 @@ consumes_trans t u v bytes rest later a b = record {
   front = a.front ++ b.front;
   parts = a.parts ∙ ap (λ (xs : List ℕ). a.front ++ xs) b.parts ∙ sym (append_assoc a.front b.front later);
   taken = λ seen h.
-    let Taken : List ℕ → Type 0 = λ xs. HasTaken v xs in
-    subst Taken (append_assoc seen a.front b.front) (b.taken (seen ++ a.front) (a.taken seen h))
+      let Taken : List ℕ → Type 0 = λ xs. HasTaken v xs in
+      subst Taken (append_assoc seen a.front b.front) (b.taken (seen ++ a.front) (a.taken seen h));
 }
 
 pub cut_after : (e : errors.TakeErr) (t u : Taker) (bytes rest : List ℕ) → Consumes t u bytes rest
@@ -88,9 +97,10 @@ cut_after e t u bytes rest a cut seen h =
     let c = cut (seen ++ a.front) (a.taken seen h) in
     let Reason : List ℕ → Type 0 = λ xs. IsTakeReason e xs in
     record {
-      front = a.front ++ c.front; rest = c.rest;
+      front = a.front ++ c.front;
+      rest = c.rest;
       parts = a.parts ∙ ap (λ (xs : List ℕ). a.front ++ xs) c.parts ∙ sym (append_assoc a.front c.front c.rest);
-      reason = subst Reason (append_assoc seen a.front c.front) c.reason
+      reason = subst Reason (append_assoc seen a.front c.front) c.reason;
     }
 
 pub cut_whole : (e : errors.TakeErr) (seen bytes : List ℕ) → IsTakeReason e (seen ++ bytes) → IsCut e seen bytes
@@ -104,8 +114,9 @@ consumes_all t u bytes taken = record { front = bytes; parts = sym (append-nil b
 
 pub consumes_none : (t : Taker) (bytes : List ℕ) → Consumes t t bytes bytes
 consumes_none t bytes = record {
-  front = []; parts = refl;
-  taken = λ seen h. let Taken : List ℕ → Type 0 = λ xs. HasTaken t xs in subst Taken (sym (append-nil seen)) h
+  front = [];
+  parts = refl;
+  taken = λ seen h. let Taken : List ℕ → Type 0 = λ xs. HasTaken t xs in subst Taken (sym (append-nil seen)) h;
 }
 
 -- at the end of the input
@@ -127,6 +138,6 @@ read_last rows more_rows lines (b ∷ run) seen h some short onto =
     let All : List (List ℕ) → Type 0 = λ ls. list_all is_text ls ≡ true in
     record {
       lines = onto ∙ ap (λ (r : List ℕ). rows ++ line_row r ∷ []) (append-nil last) ∙ ap (λ (rs : List Row). rs ++ line_row last ∷ []) h.ended
-        ∙ sym (map-append line_row h.done (last ∷ [])) ∙ ap (map line_row) whole;
-      texts = subst All whole (list_all-push h.done last h.texts (le-leb (length last) longest_text short))
+          ∙ sym (map-append line_row h.done (last ∷ [])) ∙ ap (map line_row) whole;
+      texts = subst All whole (list_all-push h.done last h.texts (le-leb (length last) longest_text short));
     }

@@ -20,7 +20,7 @@ front first rest row h =
     let reads = field_reads Text h.2 rest h.0 h.4 in
     record {
       value = row_reads one_text first rest row h;
-      len = ap (λ (xs : List ℕ). cell_len Text (xs ++ rest)) whole ∙ reads.len ∙ ap length (sym whole)
+      len = ap (λ (xs : List ℕ). cell_len Text (xs ++ rest)) whole ∙ reads.len ∙ ap length (sym whole);
     }
 
 pub rows_from-front : (n : ℕ) (first rest : List ℕ) (row : Row) → IsRow one_text first row
@@ -44,16 +44,16 @@ rows_from-push zero bytes more row h is =
     let same : bytes ++ more ≡ more ++ [] = ap (λ (xs : List ℕ). xs ++ more) h ∙ sym (append-nil more) in
     record {
       rows = ap (rows_from 1) same ∙ rows_from-front 0 more [] row is ∙ ap (λ (rows : List Row). row ∷ rows) (rows_from-zero [])
-        ∙ sym (ap (λ (rows : List Row). rows ++ row ∷ []) (rows_from-zero bytes));
-      holds = (more, [], row, is, refl, same)
+          ∙ sym (ap (λ (rows : List Row). rows ++ row ∷ []) (rows_from-zero bytes));
+      holds = (more, [], row, is, refl, same);
     }
 rows_from-push (suc n) bytes more row h is =
     let same : bytes ++ more ≡ h.0 ++ (h.1 ++ more) = ap (λ (xs : List ℕ). xs ++ more) h.5 ∙ append_assoc h.0 h.1 more in
     let later = rows_from-push n h.1 more row h.4 is in
     record {
       rows = ap (rows_from (suc (suc n))) same ∙ rows_from-front (suc n) h.0 (h.1 ++ more) h.2 h.3 ∙ ap (λ (rows : List Row). h.2 ∷ rows) later.rows
-        ∙ ap (λ (rows : List Row). rows ++ row ∷ []) (sym (rows_from-front n h.0 h.1 h.2 h.3) ∙ ap (rows_from (suc n)) (sym h.5));
-      holds = (h.0, h.1 ++ more, h.2, h.3, later.holds, same)
+          ∙ ap (λ (rows : List Row). rows ++ row ∷ []) (sym (rows_from-front n h.0 h.1 h.2 h.3) ∙ ap (rows_from (suc n)) (sym h.5));
+      holds = (h.0, h.1 ++ more, h.2, h.3, later.holds, same);
     }
 
 pub text_row : (t : List ℕ) → length t ≤ longest_text → IsRow one_text (bytes_of_u32 (length t) ++ t) (line_row t)
@@ -74,7 +74,7 @@ append_text n bytes front back new h short e =
     let Holds : List ℕ → Type 0 = λ xs. HoldsRows (suc n) xs in
     record {
       rows = rw (add-one, same) p.rows;
-      holds = rw add-one (subst Holds (sym same) p.holds)
+      holds = rw add-one (subst Holds (sym same) p.holds);
     }
 
 -- a row has bytes
@@ -113,7 +113,7 @@ only_found (suc n) bytes found k some h only =
     let rest : drop k bytes ≡ h.1 = ap (λ (m : ℕ). drop m bytes) (sym same.1) ∙ ap (λ (xs : List ℕ). drop (length first) xs) h.5 ∙ drop-append_seam first h.1 in
     record {
       rows = ap (rows_from (suc n)) h.5 ∙ rows_from-front n first h.1 h.2 h.3 ∙ rw (same.0, less, rest) refl;
-      holds = rw (less, rest) h.4
+      holds = rw (less, rest) h.4;
     }
 
 -- there is a row at the front

@@ -1,5 +1,5 @@
 -- Lines that are taken from an input, piece by piece.
-use Rattle.std.specs.Prelude.{◌≡◌, ℕ, ◌+◌, ◌<◌, ◌≤◌, Bool, true, List, ◌∷◌, ◌++◌, length, map, nat_le}
+use Rattle.std.specs.Prelude.{◌≡◌, ℕ, ◌+◌, ◌<◌, Bool, true, List, ◌∷◌, ◌++◌, length, map, nat_le}
 use Rattle.std.specs.List.{list_all}
 use Rattle.dia_defs.specs.Rows.{Row, longest_text}
 use Rattle.dia_defs.specs.Pieces.{pieces_from, lines_of, line_row, line_rows, line_feed}

@@ -1,5 +1,5 @@
 -- Rows of one text, one after the other in bytes.
-use Rattle.std.specs.Prelude.{◌≡◌, ℕ, zero, suc, ◌+◌, ◌≤◌, List, [], ◌∷◌, ◌++◌, length, take, drop}
+use Rattle.std.specs.Prelude.{◌≡◌, ℕ, zero, suc, List, [], ◌∷◌, ◌++◌, drop}
 use Rattle.dia_defs.specs.declared.kind.Kind.{Kind}
 use Rattle.dia_defs.specs.declared.kind.Kind.TheVariants.{Text}
 use Rattle.dia_defs.specs.Rows.{Row, IsRow}

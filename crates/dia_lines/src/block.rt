@@ -3,10 +3,9 @@ ghost use Rattle.std.specs.Prelude.{◌≡◌, ◌+◌, ◌≤◌, ◌++◌, ◌
 ghost use Rattle.dia_defs.specs.Rows.{longest_text, bytes_of_u32};
 ghost use Rattle.dia_defs.specs.Pieces.{line_row};
 
+use dia_edge::NoMemory;
 use std::alloc::Global;
 use std::marker::Model;
-
-use dia_edge::NoMemory;
 
 // how many bytes a block has room for
 const BLOCK: usize = 1_048_576;

@@ -3,11 +3,9 @@ ghost use Rattle.std.specs.Prelude.{◌≡◌};
 ghost use Rattle.std.specs.Iterator.{YieldsFirstBy, item_count};
 ghost use Rattle.dia_item.specs.Lent.{row_in_ref};
 
-use std::marker::Model;
-
-use dia_item::{Kinds, RowRef};
-
 use crate::place::{Place, advance};
+use dia_item::{Kinds, RowRef};
+use std::marker::Model;
 
 /// The rows that are left, in order. Contracts see their list.
 #[derive(Drop)]

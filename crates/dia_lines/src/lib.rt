@@ -5,10 +5,12 @@
 #![tactic(auto)]
 
 mod block;
-mod place;
-mod taker;
+mod input;
 mod iter;
 mod line_rows;
+mod place;
+mod taker;
 
+pub use input::{InputErr, read_input};
 pub use iter::Iter;
 pub use line_rows::LineRows;

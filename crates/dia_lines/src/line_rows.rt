@@ -3,16 +3,14 @@ ghost use Rattle.std.specs.Prelude.{◌≡◌, ◌+◌, ◌≤◌, ◌++◌, ◌
 ghost use Rattle.dia_defs.specs.Rows.{longest_text};
 ghost use Rattle.dia_defs.specs.Pieces.{line_row};
 
-use std::alloc::Global;
-use std::marker::Model;
-use std::mem;
-
-use dia_edge::NoMemory;
-use dia_item::{Kind, Kinds};
-
 use crate::block::Block;
 use crate::iter::Iter;
 use crate::place::Place;
+use dia_edge::NoMemory;
+use dia_item::{Kind, Kinds};
+use std::alloc::Global;
+use std::marker::Model;
+use std::mem;
 
 /// Rows of one text each, in blocks. Contracts see the list of the rows.
 #[derive(Drop)]

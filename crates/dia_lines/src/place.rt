@@ -6,9 +6,8 @@ ghost use Rattle.dia_lines.specs.Blocks.{rows_of_blocks, rows_of_last};
 ghost use Rattle.dia_lines.specs.Places.{rows_at, HoldsAt};
 ghost use Rattle.dia_lines.specs.Texts.{one_text, rows_from, HoldsRows};
 
-use dia_item::{Kinds, RowRef, read_row};
-
 use crate::block::Block;
+use dia_item::{Kinds, RowRef, read_row};
 
 /// What is left: some rows of the block that is read, full blocks, and the block that is written last.
 #[derive(Clone, Copy)]

@@ -1,12 +1,10 @@
 //! Takes the lines of an input that comes in pieces.
 ghost use Rattle.std.specs.Prelude.{◌≡◌, ◌≤◌, vec_len};
 
-use std::alloc::Global;
-
+use crate::line_rows::LineRows;
 use dia_edge::NoMemory;
 use dia_text::find_separator;
-
-use crate::line_rows::LineRows;
+use std::alloc::Global;
 
 /// Why a piece wasn't taken.
 #[derive(Clone, Copy, Debug)]
@@ -45,7 +43,8 @@ impl Taker {
     ghost use Rattle.dia_text.specs.Unbroken.{IsUnbroken};
 
     pub(crate) fn new(alloc: Global) -> Result<Taker, NoMemory>
-        ensures { IfOk result (λ taker. HasTaken taker []) }
+        ensures taken { IfOk result (λ taker. HasTaken taker []) }
+        ensures lines { IfOk result (λ taker. taker.lines ≡ 0) }
     {
         Ok(Taker {
             rows: LineRows::new(alloc)?,

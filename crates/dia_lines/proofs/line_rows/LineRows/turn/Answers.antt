@@ -1,6 +1,4 @@
-use Rattle.std.proofs.Common.{List, ◌++◌, ◌∷◌, [], sym, ap, ◌∙◌, append-nil}
-use Rattle.dia_defs.specs.Rows.{Row}
-use Rattle.dia_lines.specs.Blocks.{rows_of_blocks}
+use Rattle.std.proofs.Common.{◌∙◌, append-nil}
 use Rattle.dia_lines.proofs.BlockLemmas.{rows_of_blocks-push}
 use Rattle.dia_lines.proofs.line_rows.LineRows.turn.Goals as goal
 

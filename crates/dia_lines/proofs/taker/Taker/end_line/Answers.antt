@@ -1,4 +1,4 @@
-use Rattle.std.proofs.Common.{◌≡◌, ◌≤◌, ◌<◌, ◌+◌, length, arith, refl}
+use Rattle.std.proofs.Common.{arith, refl}
 use Rattle.dia_lines.proofs.TakeLemmas.{taken_line, taken_long}
 use Rattle.dia_lines.proofs.taker.Taker.end_line.Goals as goal
 

@@ -1,4 +1,4 @@
-use Rattle.std.proofs.Common.{◌≡◌, ◌<◌, ◌+◌, length, arith}
+use Rattle.std.proofs.Common.{arith}
 use Rattle.dia_lines.proofs.TakeLemmas.{taken_long}
 use Rattle.dia_lines.proofs.taker.Taker.go_on.Goals as goal
 

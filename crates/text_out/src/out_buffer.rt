@@ -1,0 +1,110 @@
+//! A buffer before a sink.
+ghost use Rattle.std.specs.Prelude.{◌≡◌, ◌≤◌, ◌+◌, ◌++◌, [], length, IfOk, OnOk, OnErr, is_some, vec_len, vec_capacity};
+ghost use Rattle.dia_edge.specs.Counts.{HasRisen};
+ghost use Rattle.dia_edge.specs.Sinks.{TookAll, TookFront};
+ghost use Rattle.text_out.specs.Carrying.{CarriesOn};
+
+use dia_edge::{Failed, NoMemory, Sink};
+use std::alloc::Global;
+use std::marker::Model;
+
+// how many bytes wait at most
+const ROOM: usize = 65_536;
+
+/// Bytes that wait to be put to a sink, some 64 KiB at most, in room that was had at its making.
+///
+/// After a failure it may only be dropped.
+#[derive(Drop)]
+pub struct OutBuffer {
+    waiting: Vec<u8>,
+}
+
+impl Model for OutBuffer {
+    ghost use Rattle.std.specs.Prelude.{List, ℕ, ◌≤◌, vec_capacity};
+
+    ghost Value = { List ℕ };
+
+    ghost view = { λ b. b.waiting.items };
+
+    ghost invariant = { λ b. 65536 ≤ vec_capacity b.waiting };
+}
+
+// Bytes that there is room for.
+#[inline]
+fn append(bytes: &mut Vec<u8>, more: &[u8])
+    requires { vec_len bytes.old + length more.now ≤ vec_capacity bytes.old }
+    ensures items { bytes.new.items ≡ bytes.old.items ++ more.now }
+    ensures capacity { vec_capacity bytes.old ≤ vec_capacity bytes.new }
+{
+    let done = bytes.extend_from_slice(more);
+    if done.is_err() {
+        unreachable!()
+    }
+}
+
+impl OutBuffer {
+    /// Nothing waits.
+    pub fn new(alloc: Global) -> Result<OutBuffer, NoMemory>
+        ensures { IfOk result (λ buffer. buffer ≡ []) }
+    {
+        Ok(OutBuffer {
+            waiting: Vec::with_capacity(alloc, ROOM)?,
+        })
+    }
+
+    /// Puts what waits.
+    pub fn flush<S: Sink>(&mut self, out: &mut S) -> Result<(), Failed>
+        ensures ok { OnOk result (TookAll (S.taken out.old) self.old (S.taken out.new)) }
+        ensures empty { OnOk result (self.new ≡ []) }
+        ensures failed { OnErr result (TookFront (S.taken out.old) self.old (S.taken out.new)) }
+        ensures rose { OnErr result (HasRisen (S.faults out.old) (S.faults out.new)) }
+        ensures counts { S.faults out.old ≤ S.faults out.new }
+        ensures tells { is_some (S.taken out.new) ≡ is_some (S.taken out.old) }
+    {
+        if self.waiting.is_empty() {
+            return Ok(());
+        }
+        match out.put(self.waiting.as_slice()) {
+            Ok(()) => {
+                self.waiting.clear();
+                Ok(())
+            }
+            Err(e) => Err(e),
+        }
+    }
+
+    /// Puts what waits and then the bytes, which are too many to wait with it.
+    fn push_past<S: Sink>(&mut self, out: &mut S, bytes: &[u8]) -> Result<(), Failed>
+        ensures ok { OnOk result (CarriesOn (S.taken out.old) self.old bytes.now (S.taken out.new) self.new) }
+        ensures failed { OnErr result (TookFront (S.taken out.old) (self.old ++ bytes.now) (S.taken out.new)) }
+        ensures rose { OnErr result (HasRisen (S.faults out.old) (S.faults out.new)) }
+        ensures counts { S.faults out.old ≤ S.faults out.new }
+        ensures tells { is_some (S.taken out.new) ≡ is_some (S.taken out.old) }
+    {
+        match self.flush(out) {
+            Ok(()) => {}
+            Err(e) => return Err(e),
+        }
+        if bytes.len() >= ROOM {
+            return out.put(bytes);
+        }
+        append(&mut self.waiting, bytes);
+        Ok(())
+    }
+
+    /// Takes the bytes; what doesn't fit goes to the sink.
+    #[inline]
+    pub fn push<S: Sink>(&mut self, out: &mut S, bytes: &[u8]) -> Result<(), Failed>
+        ensures ok { OnOk result (CarriesOn (S.taken out.old) self.old bytes.now (S.taken out.new) self.new) }
+        ensures failed { OnErr result (TookFront (S.taken out.old) (self.old ++ bytes.now) (S.taken out.new)) }
+        ensures rose { OnErr result (HasRisen (S.faults out.old) (S.faults out.new)) }
+        ensures counts { S.faults out.old ≤ S.faults out.new }
+        ensures tells { is_some (S.taken out.new) ≡ is_some (S.taken out.old) }
+    {
+        if bytes.len() <= self.waiting.capacity() - self.waiting.len() {
+            append(&mut self.waiting, bytes);
+            return Ok(());
+        }
+        self.push_past(out, bytes)
+    }
+}
