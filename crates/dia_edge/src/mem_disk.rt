@@ -44,7 +44,10 @@ impl MemDisk {
     /// A disk of which no slot was written. The calls that are numbered in `fail` fail, from 1; reads and writes
     /// share one numbering. A write for which there is no memory fails too.
     pub fn new(alloc: Global, fail: Vec<u64>) -> MemDisk
-        ensures { result ≡ record { held = []; writes = 0; plan = fresh fail.items } }
+        ensures whole { result ≡ record { held = []; writes = 0; plan = fresh fail.items } }
+        ensures slots { ⟦<MemDisk as Disk>⟧.slots result ≡ Some (slots_of []) }
+        ensures writes { ⟦<MemDisk as Disk>⟧.writes result ≡ 0 }
+        ensures faults { ⟦<MemDisk as Disk>⟧.faults result ≡ 0 }
     {
         MemDisk {
             alloc,
@@ -57,7 +60,8 @@ impl MemDisk {
     /// The slots that were written with what each of them holds now, in ascending order of slot.
     pub fn held(&self) -> &[Held]
         ensures held { pairs_of result.now ≡ self.now.held }
-        ensures ascending { IsAscending self.now.held }
+        ensures ascending { IsAscending (pairs_of result.now) }
+        ensures slots { ⟦<MemDisk as Disk>⟧.slots self.now ≡ Some (slots_of (pairs_of result.now)) }
     {
         &self.held
     }

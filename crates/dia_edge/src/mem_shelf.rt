@@ -48,7 +48,11 @@ impl MemShelf {
     /// share one numbering.
     pub fn new(files: Vec<(Name, Vec<u8>)>, step: usize, fail: Vec<u64>) -> MemShelf
         requires { 0 < step }
-        ensures { result ≡ record { files = files_of files.items; left = []; step = step; plan = fresh fail.items } }
+        ensures whole { result ≡ record { files = files_of files.items; left = []; step = step; plan = fresh fail.items } }
+        ensures holds { ⟦<MemShelf as Shelf>⟧.holds result ≡ Some (held_under (files_of files.items)) }
+        ensures left { ⟦<MemShelf as Shelf>⟧.left result ≡ Some [] }
+        ensures fixed { ⟦<MemShelf as Shelf>⟧.is_fixed result ≡ true }
+        ensures faults { ⟦<MemShelf as Shelf>⟧.faults result ≡ 0 }
     {
         let place = files.len();
         MemShelf {

@@ -80,15 +80,21 @@ fn a_disk_in_memory_keeps_its_slots_in_order(rt: HostRuntime) -> Result<(), Fail
     Ok(())
 }
 
-#[test]
-fn a_slot_in_memory_is_read_from_its_front(rt: HostRuntime) -> Result<(), Fail> {
-    let mut disk = MemDisk::new(rt.alloc(), [3].to_vec(rt.alloc())?);
+/// Writes a slot, and reads its front back.
+fn front_of_a_slot<D: Disk>(disk: &mut D, slot: u64) -> Result<[u8; 2], Failed> {
     let mut into = [0u8; 2];
-    disk.write(5, b"abc")?;
-    disk.read(5, &mut into)?;
-    assert_eq!(rt; into, *b"ab");
-    assert_eq!(rt; disk.read(5, &mut into), Err(Failed));
-    assert_eq!(rt; (disk.write_count(), disk.fault_count()), (1, 1));
+    disk.write(slot, b"abc")?;
+    disk.read(slot, &mut into)?;
+    Ok(into)
+}
+
+#[test]
+fn a_slot_is_read_from_its_front(rt: HostRuntime) -> Result<(), Fail> {
+    let mut memory = MemDisk::new(rt.alloc(), [4].to_vec(rt.alloc())?);
+    assert_eq!(rt; front_of_a_slot(&mut memory, 5), Ok(*b"ab"));
+    assert_eq!(rt; front_of_a_slot(&mut memory, 5), Err(Failed));
+    let mut file = FileDisk::new(rt, scratch(&rt, "front")?);
+    assert_eq!(rt; front_of_a_slot(&mut file, 5), Ok(*b"ab"));
     Ok(())
 }
 
