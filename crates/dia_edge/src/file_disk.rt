@@ -1,5 +1,5 @@
 //! A file as a disk.
-ghost use Rattle.std.specs.Prelude.{◌≡◌, ◌^◌, ◌<◌, ◌≤◌, Option, None, length};
+ghost use Rattle.std.specs.Prelude.{◌≡◌, None};
 
 use crate::count::Count;
 use crate::disk::Disk;

@@ -1,7 +1,7 @@
 //! A disk in memory.
-ghost use Rattle.std.specs.Prelude.{◌≡◌, ◌≢◌, ℕ, ◌≤◌, List, Option, Some, [], false, true, not, map, length, is_ok, is_some, OnOk, OnErr, Result, Ok, Err};
+ghost use Rattle.std.specs.Prelude.{◌≡◌, ◌≤◌, Some, [], false, not, length, is_ok, OnOk, OnErr, Ok, Err};
 ghost use Rattle.dia_edge.specs.Counts.{HasRisen, raised};
-ghost use Rattle.dia_edge.specs.Disks.{Slots, CanFill, IsFilled, IsWritten, OthersStay};
+ghost use Rattle.dia_edge.specs.Disks.{CanFill, IsFilled, IsWritten, OthersStay};
 ghost use Rattle.dia_edge.specs.Plans.{fresh, is_next_planned, called};
 ghost use Rattle.dia_edge.specs.Slots.{pairs_of, slots_of, numbers, IsAscending, IsPlace, IsPut};
 

@@ -1,5 +1,5 @@
 //! A shelf in memory.
-ghost use Rattle.std.specs.Prelude.{◌≡◌, ℕ, ◌+◌, ◌^◌, ◌<◌, ◌≤◌, Bool, List, Option, Some, None, [], true, false, not, min, length, take, drop, is_ok, is_some, MatchOption, MatchBool, OnOk, OnErr, IfOk};
+ghost use Rattle.std.specs.Prelude.{◌≡◌, ◌+◌, ◌^◌, ◌<◌, ◌≤◌, Some, None, [], true, not, min, length, take, drop, is_ok, MatchOption, MatchBool, OnErr, IfOk};
 ghost use Rattle.dia_edge.specs.Counts.{HasRisen};
 ghost use Rattle.dia_edge.specs.Files.{files_of, held_under, bytes_at};
 ghost use Rattle.dia_edge.specs.Plans.{fresh, is_next_planned, called};
@@ -9,7 +9,6 @@ use crate::name::Name;
 use crate::plan::FaultPlan;
 use crate::refusals::Failed;
 use crate::shelf::Shelf;
-use std::alloc::Global;
 use std::marker::Model;
 
 /// A shelf of files that it was given, and tells.

@@ -94,9 +94,21 @@ fn a_slot_is_read_from_its_front(rt: HostRuntime) -> Result<(), Fail> {
     Ok(())
 }
 
+fn moves_between_threads<T: Send + Drop>(_: T) {}
+
+fn is_shared_by_threads<T: Sync>(_: &T) {}
+
 #[test]
 fn an_open_gate_lets_through(rt: HostRuntime) {
+    is_shared_by_threads(&OpenGate);
     OpenGate.at(&rt, 0, 1);
+}
+
+#[test]
+fn disks_move_between_threads(rt: HostRuntime) -> Result<(), Fail> {
+    moves_between_threads(MemDisk::new(rt.alloc(), Vec::new(rt.alloc())));
+    moves_between_threads(FileDisk::new(rt, Name::of(rt.alloc(), "dia_edge_never_made")?));
+    Ok(())
 }
 
 #[test]
