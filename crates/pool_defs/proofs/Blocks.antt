@@ -5,8 +5,9 @@ use Rattle.std.proofs.lemmas.List.{get_or-set_same, get_or-set_other, get_or_pas
 use Rattle.std.proofs.lemmas.List.Sums.{sum_by-set, sum_by_push}
 use Rattle.std.proofs.lemmas.Bool.{cases_lt, cases_eq}
 use Rattle.std.proofs.lemmas.Bool.Decides.{nat_tests}
-use Rattle.pool_defs.specs.declared.place.Place.{Place}
-use Rattle.pool_defs.specs.Pool.{Block, is_placed, placed_count, moved, placed, with_block}
+use Rattle.pool_defs.specs.declared.block.Block.{Block}
+use Rattle.pool_defs.specs.declared.block.Place.{Place}
+use Rattle.pool_defs.specs.Pool.{is_placed, placed_count, moved, placed, with_block}
 
 module _ {C : Type 0} where
   -- what a look-up shows of the block at an index

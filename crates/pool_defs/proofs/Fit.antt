@@ -6,9 +6,10 @@ use Rattle.std.proofs.lemmas.List.{get_or-set_other, get_or_past, set_past}
 use Rattle.std.proofs.lemmas.List.Sums.{sum_by-set, sum_by-cons}
 use Rattle.std.proofs.Math.Nat.{mul-le-mul_left, add-mul}
 use Rattle.std.proofs.lemmas.Bool.{cases_lt}
-use Rattle.pool_defs.specs.declared.place.Place.{Place}
-use Rattle.pool_defs.specs.declared.place.Place.TheVariants.{Out, Cached, Slot}
-use Rattle.pool_defs.specs.Pool.{Block, PoolMachine, is_out, is_cached, is_spilled, is_placed, placed_count, slots_in_use, IsValid}
+use Rattle.pool_defs.specs.declared.block.Block.{Block}
+use Rattle.pool_defs.specs.declared.block.Place.{Place}
+use Rattle.pool_defs.specs.declared.block.Place.TheVariants.{Out, Cached, Slot}
+use Rattle.pool_defs.specs.Pool.{PoolMachine, is_out, is_cached, is_spilled, is_placed, placed_count, slots_in_use, IsValid}
 use Rattle.pool_defs.specs.Laws.{length_of, IsAtMost}
 
 -- the length of a block, where one lives

@@ -3,9 +3,10 @@ use Rattle.std.proofs.Common.{◌≡◌, ◌≢◌, ℕ, inl, inr, List, [], ◌
 use Rattle.std.specs.Option.{option_map}
 use Rattle.std.specs.List.{AllByRecursion}
 use Rattle.std.proofs.lemmas.Bool.{cases_eq}
-use Rattle.pool_defs.specs.declared.place.Place.{Place}
-use Rattle.pool_defs.specs.declared.place.Place.TheVariants.{Out, Cached, Slot}
-use Rattle.pool_defs.specs.Pool.{Block, PoolMachine, PoolEvent, Evict, Frame, Seal, Give_back, Pin, Unpin, Free, placed, with_block, block_of, place_of, content_of, IsNew, Evicts, MakesRoom, Pins, Frees, IsStep, PoolRun}
+use Rattle.pool_defs.specs.declared.block.Block.{Block}
+use Rattle.pool_defs.specs.declared.block.Place.{Place}
+use Rattle.pool_defs.specs.declared.block.Place.TheVariants.{Out, Cached, Slot}
+use Rattle.pool_defs.specs.Pool.{PoolMachine, PoolEvent, Evict, Frame, Seal, Give_back, Pin, Unpin, Free, placed, with_block, block_of, place_of, content_of, IsNew, Evicts, MakesRoom, Pins, Frees, IsStep, PoolRun}
 use Rattle.pool_defs.proofs.Blocks.{place_at, content_at, content_at-placed, place_at-placed_same, place_at-placed_other, freed_other, with_block_other}
 
 module _ {C : Type 0} where

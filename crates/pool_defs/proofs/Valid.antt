@@ -2,9 +2,10 @@
 use Rattle.std.proofs.Common.{◌≡◌, ◌≢◌, ℕ, ◌+◌, ◌-◌, ◌<◌, ◌≤◌, inl, inr, List, length, set, Option, Some, None, refl, sym, ap, ◌∙◌, subst, arith}
 use Rattle.std.specs.Option.{option_map}
 use Rattle.std.proofs.lemmas.Bool.{cases_eq}
-use Rattle.pool_defs.specs.declared.place.Place.{Place}
-use Rattle.pool_defs.specs.declared.place.Place.TheVariants.{Out, Cached, Slot}
-use Rattle.pool_defs.specs.Pool.{Block, PoolMachine, PoolEvent, Evict, Frame, Seal, Give_back, Pin, Unpin, Free, is_out, is_cached, placed_count, placed, with_block, place_of, IsValid, Evicts, MakesRoom, Pins, Frees, IsStep, opened}
+use Rattle.pool_defs.specs.declared.block.Block.{Block}
+use Rattle.pool_defs.specs.declared.block.Place.{Place}
+use Rattle.pool_defs.specs.declared.block.Place.TheVariants.{Out, Cached, Slot}
+use Rattle.pool_defs.specs.Pool.{PoolMachine, PoolEvent, Evict, Frame, Seal, Give_back, Pin, Unpin, Free, is_out, is_cached, placed_count, placed, with_block, place_of, IsValid, Evicts, MakesRoom, Pins, Frees, IsStep, opened}
 use Rattle.pool_defs.proofs.Blocks.{place_at, place_at-placed_same, place_at-placed_other, freed_same, freed_other, with_block_same, with_block_other, count-placed, count-freed, count-with_block}
 
 -- no two ids have one slot

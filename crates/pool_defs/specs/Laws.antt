@@ -1,7 +1,7 @@
 -- The laws of the pool machine.
 use Rattle.std.specs.Prelude.{◌≡◌, ◌≢◌, ℕ, ◌+◌, ◌*◌, ◌≤◌, List, Some, All, AllPairs, sum_by, IsSome, unwrap_or}
 use Rattle.std.specs.List.{AllByRecursion}
-use Rattle.pool_defs.specs.declared.place.Place.TheVariants.{Out}
+use Rattle.pool_defs.specs.declared.block.Place.TheVariants.{Out}
 use Rattle.pool_defs.specs.Pool.{PoolMachine, PoolEvent, Unpin, Free, block_of, place_of, content_of, slots_in_use, IsValid, IsStep, PoolRun, opened}
 
 -- over every run without its own free a live block keeps its content

@@ -1,13 +1,9 @@
 -- The pool machine: its states, what may happen, and whole runs.
 -- The contents of blocks are of any type: their bytes, or where nothing else is known their lengths alone.
 use Rattle.std.specs.Prelude.{◌≡◌, ◌≢◌, ℕ, ◌+◌, ◌-◌, ◌<◌, ◌≤◌, ◌⊎◌, Bool, true, false, nat_lt, List, [], ◌∷◌, ◌++◌, length, slice_set, slice_index_or, Option, Some, None, option_map, count_by, if◌then◌else◌}
-use Rattle.pool_defs.specs.declared.place.Place.{Place}
-use Rattle.pool_defs.specs.declared.place.Place.TheVariants.{Out, Cached, Slot}
-
--- a live block: what was sealed in it, and where it is
-pub record Block (C : Type 0) : Type 0 where
-  pub content : C
-  pub place : Place
+use Rattle.pool_defs.specs.declared.block.Block.{Block}
+use Rattle.pool_defs.specs.declared.block.Place.{Place}
+use Rattle.pool_defs.specs.declared.block.Place.TheVariants.{Out, Cached, Slot}
 
 -- Each frame is free, being written, or holds a block that is out or cached.
 -- A block's id is its place in the list, and the next new id is the list's length; None is an id whose block was freed.

@@ -1,4 +1,4 @@
-//! Places of blocks.
+//! Blocks and their places.
 
 /// Where a block is.
 #[derive(Clone, Copy, Debug, PartialEq, Eq)]
@@ -9,4 +9,11 @@ pub enum Place {
     Cached,
     /// In this slot of the disk, and in no frame.
     Slot(u64),
+}
+
+/// A live block: what was sealed in it, which is its bytes or where only that is known their number, and where it is.
+#[derive(Clone, Copy)]
+pub struct Block<C> {
+    pub content: C,
+    pub place: Place,
 }
