@@ -1,4 +1,5 @@
 pub mod Blocks
 pub mod Steps
 pub mod Valid
+pub mod Apart
 pub mod Fit

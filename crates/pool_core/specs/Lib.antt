@@ -1,0 +1,4 @@
+pub mod Bufs
+pub mod Numbers
+pub mod Caches
+pub mod Positions
