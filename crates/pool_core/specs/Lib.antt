@@ -2,3 +2,4 @@ pub mod Bufs
 pub mod Numbers
 pub mod Caches
 pub mod Positions
+pub mod Tables

@@ -4,5 +4,6 @@
 mod buf;
 mod numbers;
 mod cache;
+mod table;
 
 pub use buf::Buf;

@@ -1,11 +1,11 @@
 -- Each event leaves a valid state valid.
-use Rattle.std.proofs.Common.{◌≡◌, ◌≢◌, ℕ, ◌+◌, ◌-◌, ◌<◌, ◌≤◌, inl, inr, List, length, set, Option, Some, None, refl, sym, ap, ◌∙◌, subst, arith}
+use Rattle.std.proofs.Common.{◌≡◌, ◌≢◌, ℕ, ◌+◌, ◌-◌, ◌<◌, ◌≤◌, inl, inr, List, length, set, Option, Some, None, refl, sym, ap, ◌∙◌, subst, arith, cond}
 use Rattle.std.specs.Option.{option_map}
 use Rattle.std.proofs.lemmas.Bool.{cases_eq}
 use Rattle.pool_defs.specs.declared.block.Block.{Block}
 use Rattle.pool_defs.specs.declared.block.Place.{Place}
 use Rattle.pool_defs.specs.declared.block.Place.TheVariants.{Out, Cached, Slot}
-use Rattle.pool_defs.specs.Pool.{PoolMachine, PoolEvent, Evict, Frame, Seal, Give_back, Pin, Unpin, Free, is_out, is_cached, placed_count, placed, with_block, place_of, IsValid, Evicts, MakesRoom, Pins, Frees, IsStep, opened}
+use Rattle.pool_defs.specs.Pool.{IsUnused, PoolMachine, PoolEvent, Evict, Frame, Seal, Give_back, Pin, Unpin, Free, is_out, is_cached, placed_count, placed, with_block, place_of, IsValid, Evicts, MakesRoom, Pins, Frees, IsStep, opened}
 use Rattle.pool_defs.proofs.Blocks.{place_at, place_at-placed_same, place_at-placed_other, freed_same, freed_other, with_block_same, with_block_other, count-placed, count-freed, count-with_block}
 
 -- no two ids have one slot
@@ -44,6 +44,30 @@ module _ {C : Type 0} where
   differ_sealed blocks at content within differ =
       let block : Block C = record { content = content; place = Cached } in
       differ_after (place_at blocks) (place_at (with_block blocks at block)) at (λ id apart. ap (λ it. option_map (λ block. block.place) it) (with_block_other blocks at block id within apart)) (λ slot here. let now = ap (λ it. option_map (λ (block : Block C). block.place) it) (with_block_same blocks at block within) in absurd (cc)) differ
+
+  -- a block in another place, where the frames still add up, and to a slot only if it is unused
+  pub valid_placed : (old : PoolMachine C) (free written id : ℕ) (to was : Place) → place_of old id ≡ Some was → ((slot : ℕ) → to ≡ Slot slot → IsUnused old slot) → IsValid old
+      → free + written + cond (is_out to) 1 0 + cond (is_cached to) 1 0 ≡ old.free + old.written + cond (is_out was) 1 0 + cond (is_cached was) 1 0
+      → IsValid {C = C} (record { frames = old.frames; free = free; written = written; blocks = placed old.blocks id to })
+  valid_placed old free written id to was is unused valid sum = record {
+    slots_differ = differ_placed old.blocks id to was is unused valid.slots_differ;
+    frames_add_up =
+        let outs = count-placed is_out old.blocks id to was is in
+        let cacheds = count-placed is_cached old.blocks id to was is in
+        omega (arith, outs, cacheds, sum, valid.frames_add_up)
+  }
+
+  -- a block that is gone
+  pub valid_freed : (old : PoolMachine C) (free id : ℕ) (was : Place) → place_of old id ≡ Some was → IsValid old
+      → free ≡ old.free + cond (is_out was) 1 0 + cond (is_cached was) 1 0
+      → IsValid {C = C} (record { frames = old.frames; free = free; written = old.written; blocks = set old.blocks id None })
+  valid_freed old free id was is valid sum = record {
+    slots_differ = differ_freed old.blocks id valid.slots_differ;
+    frames_add_up =
+        let outs = count-freed is_out old.blocks id was is in
+        let cacheds = count-freed is_cached old.blocks id was is in
+        omega (arith, outs, cacheds, sum, valid.frames_add_up)
+  }
 
   evicts_valid : (old new : PoolMachine C) → IsValid old → Evicts old new → IsValid new
   evicts_valid old new valid step =

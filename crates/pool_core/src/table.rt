@@ -1,0 +1,203 @@
+//! The pool without its disk: where each block is, the frames that are free or cached, and the slots that are unused.
+ghost use Rattle.std.specs.Prelude.{◌≡◌, ℕ, ◌+◌, ◌-◌, ◌<◌, ◌≤◌, ◌↔◌, true, List, [], length, All, IfOk, OnErr, IfErr, IsTrue, IsSome, Some, None, slice_index_or, vec_len, vec_capacity};
+ghost use Rattle.pool_defs.specs.declared.block.Place.TheVariants.{Out, Cached, Slot};
+ghost use Rattle.pool_defs.specs.Pool.{opened, block_of, place_of, content_of, cached_count, placed, with_block, IsUnused, IsNew};
+ghost use Rattle.pool_core.specs.Numbers.{is_given, Gives};
+ghost use Rattle.pool_core.specs.Caches.{find};
+ghost use Rattle.pool_core.specs.Tables.{Caches, Uncaches};
+
+use std::alloc::Global;
+use std::marker::Model;
+
+use crate::buf::Buf;
+use crate::cache::{Cache, CachedBlock};
+use crate::numbers::Numbers;
+use dia_edge::NoMemory;
+use pool_defs::{Block, Place};
+
+/// The frames, and where each block is. A block's entry says how long it is; an id without an entry waits to be used again.
+#[derive(Drop)]
+pub(crate) struct Table {
+    size: usize,
+    frames: usize,
+    written: usize,
+    free: Vec<Buf>,
+    blocks: Vec<Option<Block<usize>>>,
+    ids: Numbers,
+    slots: Numbers,
+    cache: Cache,
+}
+
+impl Model for Table {
+    ghost use Rattle.std.specs.Prelude.{◌≤◌, ℕ, length, vec_capacity};
+    ghost use Rattle.pool_core.specs.Tables.{Held, machine_of, IsSound};
+
+    ghost Value = { Held };
+
+    ghost view = { λ it. record { size = it.size; pool = machine_of it.frames it.free.items it.written it.blocks.items; cached = it.cache.blocks; slots = it.slots } };
+
+    ghost invariant = { λ it. IsSound it.size it.frames it.written it.free.items it.blocks.items it.ids it.slots it.cache × (it.frames ≤ vec_capacity it.free) };
+}
+
+impl Table {
+    /// All frames free, and no block.
+    pub(crate) fn open(alloc: Global, frames: usize, size: usize) -> Result<Table, NoMemory>
+        ensures size { IfOk result (λ table. table.size ≡ size) }
+        ensures pool { IfOk result (λ table. table.pool ≡ opened ℕ frames) }
+        ensures cached { IfOk result (λ table. table.cached ≡ []) }
+    {
+        Ok(Table {
+            size,
+            frames,
+            written: 0,
+            free: free_frames(alloc, frames, size)?,
+            blocks: Vec::new(alloc),
+            ids: Numbers::new(alloc),
+            slots: Numbers::new(alloc),
+            cache: Cache::new(alloc, frames)?,
+        })
+    }
+
+    pub(crate) fn has_free(&self) -> bool
+        ensures { IsTrue result ↔ (0 < self.now.pool.free) }
+    {
+        !self.free.is_empty()
+    }
+
+    /// A free frame, empty, to be written.
+    pub(crate) fn frame(&mut self) -> Buf
+        requires free { 0 < self.old.pool.free }
+        ensures buf { result ≡ record { bytes = []; size = self.old.size } }
+        ensures table { self.new ≡ record self.old { pool = record self.old.pool { free = self.old.pool.free - 1; written = self.old.pool.written + 1 } } }
+    {
+        let mut buf = self.free.pop().unwrap();
+        self.written += 1;
+        buf.clear();
+        buf
+    }
+
+    /// A frame that was being written is free.
+    pub(crate) fn give_back(&mut self, buf: Buf)
+        requires written { 0 < self.old.pool.written }
+        requires size { buf.size ≡ self.old.size }
+        ensures { self.new ≡ record self.old { pool = record self.old.pool { free = self.old.pool.free + 1; written = self.old.pool.written - 1 } } }
+    {
+        self.written -= 1;
+        self.free.push_reserved(buf);
+    }
+
+    /// The block with this id: its length and its place.
+    pub(crate) fn block(&self, id: u64) -> Block<usize>
+        requires live { IsSome (block_of self.now.pool id) }
+        ensures block { block_of self.now.pool id ≡ Some result }
+        ensures short { result.content ≤ self.now.size }
+    {
+        self.blocks[id as usize].unwrap()
+    }
+
+    /// The frame of a cached block, which is out from now on.
+    pub(crate) fn pin(&mut self, id: u64) -> Buf
+        requires cached { place_of self.old.pool id ≡ Some Cached }
+        ensures buf { find self.old.cached id ≡ Some result }
+        ensures size { result.size ≡ self.old.size }
+        ensures length { content_of self.old.pool id ≡ Some (length result.bytes) }
+        ensures pool { self.new.pool ≡ record self.old.pool { blocks = placed self.old.pool.blocks id Out } }
+        ensures cached { Uncaches self.old id self.new }
+        ensures same { (self.new.size ≡ self.old.size) × (self.new.slots ≡ self.old.slots) }
+    {
+        place_block(&mut self.blocks, id, Place::Out);
+        self.cache.remove(id)
+    }
+
+    /// The frame of a block that was out is cached.
+    pub(crate) fn unpin(&mut self, id: u64, buf: Buf)
+        requires out { place_of self.old.pool id ≡ Some Out }
+        requires length { content_of self.old.pool id ≡ Some (length buf.bytes) }
+        requires size { buf.size ≡ self.old.size }
+        ensures pool { self.new.pool ≡ record self.old.pool { blocks = placed self.old.pool.blocks id Cached } }
+        ensures cached { Caches self.old id buf self.new }
+        ensures same { (self.new.size ≡ self.old.size) × (self.new.slots ≡ self.old.slots) }
+    {
+        place_block(&mut self.blocks, id, Place::Cached);
+        self.cache.push(id, buf);
+    }
+
+    /// A spilled block was read into a frame that was being written, and is out from now on.
+    pub(crate) fn arrive(&mut self, id: u64, slot: u64)
+        requires spilled { place_of self.old.pool id ≡ Some (Slot slot) }
+        requires written { 0 < self.old.pool.written }
+        ensures pool { self.new.pool ≡ record self.old.pool { written = self.old.pool.written - 1; blocks = placed self.old.pool.blocks id Out } }
+        ensures same { (self.new.size ≡ self.old.size) × (self.new.cached ≡ self.old.cached) }
+    {
+        self.written -= 1;
+        place_block(&mut self.blocks, id, Place::Out);
+        self.slots.give(slot);
+    }
+
+    /// The block to evict, which is the one cached last: the blocks of a long file that is read again and again from
+    /// its front stay cached as far as there are frames.
+    pub(crate) fn victim(&self) -> &CachedBlock
+        requires some { 0 < cached_count self.now.pool }
+        ensures found { find self.now.cached result.now.id ≡ Some result.now.buf }
+        ensures block { block_of self.now.pool result.now.id ≡ Some (record { content = length result.now.buf.bytes; place = Cached }) }
+    {
+        self.cache.last()
+    }
+
+    /// A slot in which no block is, to be written. It is for this table's next spill, or comes back.
+    pub(crate) fn take_slot(&mut self) -> Result<u64, NoMemory>
+        ensures given { IfOk result (λ slot. is_given self.new.slots slot ≡ true) }
+        ensures unused { IfOk result (λ slot. IsUnused self.old.pool slot) }
+        ensures same { (self.new.pool ≡ self.old.pool) × (self.new.size ≡ self.old.size) × (self.new.cached ≡ self.old.cached) }
+    {
+        self.slots.take()
+    }
+
+    /// A slot that was taken comes back.
+    pub(crate) fn return_slot(&mut self, slot: u64)
+        requires given { is_given self.old.slots slot ≡ true }
+        requires unused { IsUnused self.old.pool slot }
+        ensures { (self.new.pool ≡ self.old.pool) × (self.new.size ≡ self.old.size) × (self.new.cached ≡ self.old.cached) }
+    {
+        self.slots.give(slot);
+    }
+
+    /// A cached block is in the slot, and its frame is free.
+    pub(crate) fn spill(&mut self, id: u64, slot: u64)
+        requires cached { place_of self.old.pool id ≡ Some Cached }
+        requires given { is_given self.old.slots slot ≡ true }
+        requires unused { IsUnused self.old.pool slot }
+        ensures pool { self.new.pool ≡ record self.old.pool { free = self.old.pool.free + 1; blocks = placed self.old.pool.blocks id (Slot slot) } }
+        ensures cached { Uncaches self.old id self.new }
+        ensures size { self.new.size ≡ self.old.size }
+    {
+        place_block(&mut self.blocks, id, Place::Slot(slot));
+        let buf = self.cache.remove(id);
+        self.free.push_reserved(buf);
+    }
+}
+
+/// So many buffers of this size.
+fn free_frames(alloc: Global, frames: usize, size: usize) -> Result<Vec<Buf>, NoMemory>
+    ensures count { IfOk result (λ free. vec_len free ≡ frames) }
+    ensures room { IfOk result (λ free. frames ≤ vec_capacity free) }
+    ensures sizes { IfOk result (λ free. All (λ buf. buf.size ≡ size) free.items) }
+{
+    let mut free = Vec::with_capacity(alloc, frames)?;
+    for made in 0..frames {
+        free.push_reserved(Buf::with_size(alloc, size)?);
+    }
+    Ok(free)
+}
+
+/// Puts a live block in another place.
+fn place_block(blocks: &mut Vec<Option<Block<usize>>>, id: u64, place: Place)
+    requires { IsSome (slice_index_or blocks.old.items id None) }
+    ensures { blocks.new.items ≡ placed blocks.old.items id place }
+{
+    let block = blocks[id as usize].unwrap();
+    blocks[id as usize] = Some(Block {
+        content: block.content,
+        place,
+    });
+}
