@@ -1,5 +1,5 @@
 -- The pool without its disk: where each block is and how long it is, and the bytes of the cached ones.
-use Rattle.std.specs.Prelude.{◌≡◌, ◌≢◌, ℕ, ◌≤◌, true, ◌==◌, List, length, slice_index_or, Option, Some, None, option_map, is_some, All, if◌then◌else◌}
+use Rattle.std.specs.Prelude.{◌≡◌, ◌≢◌, ℕ, ◌<◌, ◌≤◌, true, ◌==◌, List, length, slice_index_or, Option, Some, None, option_map, is_some, All, if◌then◌else◌}
 use Rattle.pool_defs.specs.declared.block.Block.{Block}
 use Rattle.pool_defs.specs.declared.block.Place.{Place}
 use Rattle.pool_defs.specs.declared.block.Place.TheVariants.{Cached, Slot}
@@ -24,6 +24,10 @@ Caches old id buf new = (other : ℕ) → find new.cached other ≡ (if id == ot
 -- the block with this id is not cached, and the others are as they were
 abbrev pub Uncaches : Held → ℕ → Held → Type 0
 Uncaches old id new = (other : ℕ) → find new.cached other ≡ (if id == other then None else find old.cached other)
+
+-- where the id of some freed block waits, this is one
+abbrev pub Reuses : PoolMachine ℕ → ℕ → Type 0
+Reuses pool id = (other : ℕ) → other < length pool.blocks → block_of pool other ≡ None → id < length pool.blocks
 
 abbrev pub machine_of : ℕ → List Contents → ℕ → List (Option (Block ℕ)) → PoolMachine ℕ
 machine_of frames free written blocks = record { frames = frames; free = length free; written = written; blocks = blocks }

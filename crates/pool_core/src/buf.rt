@@ -39,6 +39,14 @@ impl Buf {
         self.size - self.bytes.len()
     }
 
+    /// How many bytes there are.
+    pub(crate) fn len(&self) -> usize
+        ensures len { result ≡ length self.now.bytes }
+        ensures within { length self.now.bytes ≤ self.now.size }
+    {
+        self.bytes.len()
+    }
+
     /// Puts a piece behind the bytes that are there.
     pub fn put(&mut self, piece: &[u8])
         requires fits { length self.old.bytes + length piece.now ≤ self.old.size }

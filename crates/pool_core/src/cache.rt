@@ -48,6 +48,13 @@ impl Cache {
         })
     }
 
+    /// How many ids there are; a cached block's id is below.
+    pub(crate) fn ids(&self) -> usize
+        ensures { result ≡ self.now.ids }
+    {
+        self.positions.len()
+    }
+
     /// Makes room for one more id.
     pub(crate) fn add_id(&mut self) -> Result<(), NoMemory>
         ensures ok { OnOk result (self.new ≡ record self.old { ids = self.old.ids + 1 }) }

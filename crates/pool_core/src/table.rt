@@ -1,10 +1,10 @@
 //! The pool without its disk: where each block is, the frames that are free or cached, and the slots that are unused.
-ghost use Rattle.std.specs.Prelude.{◌≡◌, ℕ, ◌+◌, ◌-◌, ◌<◌, ◌≤◌, ◌↔◌, true, List, [], length, All, IfOk, OnErr, IfErr, IsTrue, IsSome, Some, None, slice_index_or, vec_len, vec_capacity};
+ghost use Rattle.std.specs.Prelude.{◌≡◌, ℕ, ◌+◌, ◌-◌, ◌<◌, ◌≤◌, ◌↔◌, true, List, [], length, All, IfOk, OnErr, IfErr, IsTrue, IsSome, Some, None, slice_index_or, slice_set, nat_lt, ◌∷◌, ◌++◌, if◌then◌else◌, vec_len, vec_capacity};
 ghost use Rattle.pool_defs.specs.declared.block.Place.TheVariants.{Out, Cached, Slot};
 ghost use Rattle.pool_defs.specs.Pool.{opened, block_of, place_of, content_of, cached_count, placed, with_block, IsUnused, IsNew};
 ghost use Rattle.pool_core.specs.Numbers.{is_given, Gives};
 ghost use Rattle.pool_core.specs.Caches.{find};
-ghost use Rattle.pool_core.specs.Tables.{Caches, Uncaches};
+ghost use Rattle.pool_core.specs.Tables.{Caches, Uncaches, Reuses};
 
 use std::alloc::Global;
 use std::marker::Model;
@@ -122,6 +122,56 @@ impl Table {
         self.cache.push(id, buf);
     }
 
+    /// A frame that was being written is a new cached block; its id is that of a freed block where one waits.
+    pub(crate) fn seal(&mut self, buf: Buf) -> Result<u64, (Buf, NoMemory)>
+        requires written { 0 < self.old.pool.written }
+        requires size { buf.size ≡ self.old.size }
+        ensures new { IfOk result (λ id. IsNew self.old.pool id) }
+        ensures reused { IfOk result (λ id. Reuses self.old.pool id) }
+        ensures pool { IfOk result (λ id. self.new.pool ≡ record self.old.pool { written = self.old.pool.written - 1; blocks = with_block self.old.pool.blocks id (record { content = length buf.bytes; place = Cached }) }) }
+        ensures cached { IfOk result (λ id. Caches self.old id buf self.new) }
+        ensures same { (self.new.size ≡ self.old.size) × (self.new.slots ≡ self.old.slots) }
+        ensures returned { IfErr result (λ refused. refused.0 ≡ buf) }
+        ensures err { OnErr result (self.new ≡ self.old) }
+    {
+        match new_id(&mut self.blocks, &mut self.ids, &mut self.cache) {
+            Ok(id) => {
+                self.blocks[id as usize] = Some(Block {
+                    content: buf.len(),
+                    place: Place::Cached,
+                });
+                self.cache.push(id, buf);
+                self.written -= 1;
+                Ok(id)
+            }
+            Err(refusal) => Err((buf, refusal)),
+        }
+    }
+
+    /// A cached block is gone, and its frame is free.
+    pub(crate) fn free_cached(&mut self, id: u64)
+        requires cached { place_of self.old.pool id ≡ Some Cached }
+        ensures pool { self.new.pool ≡ record self.old.pool { free = self.old.pool.free + 1; blocks = slice_set self.old.pool.blocks id None } }
+        ensures cached { Uncaches self.old id self.new }
+        ensures size { self.new.size ≡ self.old.size }
+    {
+        self.blocks[id as usize] = None;
+        self.ids.give(id);
+        let buf = self.cache.remove(id);
+        self.free.push_reserved(buf);
+    }
+
+    /// A spilled block is gone, and its slot is unused.
+    pub(crate) fn free_spilled(&mut self, id: u64, slot: u64)
+        requires spilled { place_of self.old.pool id ≡ Some (Slot slot) }
+        ensures pool { self.new.pool ≡ record self.old.pool { blocks = slice_set self.old.pool.blocks id None } }
+        ensures same { (self.new.size ≡ self.old.size) × (self.new.cached ≡ self.old.cached) }
+    {
+        self.blocks[id as usize] = None;
+        self.ids.give(id);
+        self.slots.give(slot);
+    }
+
     /// A spilled block was read into a frame that was being written, and is out from now on.
     pub(crate) fn arrive(&mut self, id: u64, slot: u64)
         requires spilled { place_of self.old.pool id ≡ Some (Slot slot) }
@@ -200,4 +250,30 @@ fn place_block(blocks: &mut Vec<Option<Block<usize>>>, id: u64, place: Place)
         content: block.content,
         place,
     });
+}
+
+/// The id of a new block, which has an empty entry; that of a freed block where one waits, else the next one.
+fn new_id(
+    blocks: &mut Vec<Option<Block<usize>>>,
+    ids: &mut Numbers,
+    cache: &mut Cache,
+) -> Result<u64, NoMemory>
+    requires next { ids.old.next ≡ length blocks.old.items }
+    requires covered { length blocks.old.items ≤ cache.old.ids }
+    ensures given { IfOk result (λ id. Gives ids.old ids.new id) }
+    ensures entry { IfOk result (λ id. blocks.new.items ≡ (if nat_lt id (length blocks.old.items) then blocks.old.items else blocks.old.items ++ None ∷ [])) }
+    ensures within { IfOk result (λ id. id < vec_len blocks.new) }
+    ensures covered { vec_len blocks.new ≤ cache.new.ids }
+    ensures cache { (cache.new.blocks ≡ cache.old.blocks) × (cache.new.limit ≡ cache.old.limit) }
+    ensures err { OnErr result ((blocks.new.items ≡ blocks.old.items) × (ids.new ≡ ids.old)) }
+{
+    blocks.reserve(1)?;
+    if cache.ids() == blocks.len() {
+        cache.add_id()?;
+    }
+    let id = ids.take()?;
+    if id as usize == blocks.len() {
+        blocks.push_reserved(None);
+    }
+    Ok(id)
 }
