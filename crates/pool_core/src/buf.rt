@@ -1,10 +1,14 @@
 //! Buffers: the memory of one frame, in hand.
-ghost use Rattle.std.specs.Prelude.{◌≡◌, ℕ, ◌+◌, ◌-◌, ◌≤◌, [], ◌++◌, length, IfOk};
+ghost use Rattle.std.specs.Prelude.{◌≡◌, ℕ, ◌+◌, ◌-◌, ◌≤◌, [], ◌++◌, length, IfOk, OnOk, OnErr, vec_len, vec_capacity};
+ghost use Rattle.dia_edge.specs.Counts.{HasRisen};
+ghost use Rattle.dia_edge.specs.Disks.{CanFill, IsFilled};
 
 use std::alloc::Global;
 use std::marker::Model;
 
-use dia_edge::NoMemory;
+use dia_edge::{Disk, Failed, NoMemory};
+
+static ZEROS: [u8; 4096] = [0; 4096];
 
 /// One frame in hand: bytes that are put one piece after the other, up to the frame's size.
 #[derive(Drop)]
@@ -62,6 +66,22 @@ impl Buf {
         self.bytes.clear();
     }
 
+    /// Fills the buffer with the front of a slot. After a failure its bytes are anything.
+    pub(crate) fn read<D: Disk>(&mut self, disk: &mut D, slot: u64, n: usize) -> Result<(), Failed>
+        requires fits { n ≤ self.old.size }
+        requires within { CanFill (D.slots disk.old) slot n }
+        ensures size { self.new.size ≡ self.old.size }
+        ensures length { length self.new.bytes ≡ n }
+        ensures ok { OnOk result (IsFilled (D.slots disk.old) slot self.new.bytes) }
+        ensures slots { D.slots disk.new ≡ D.slots disk.old }
+        ensures writes { D.writes disk.new ≡ D.writes disk.old }
+        ensures rose { OnErr result (HasRisen (D.faults disk.old) (D.faults disk.new)) }
+        ensures counts { D.faults disk.old ≤ D.faults disk.new }
+    {
+        fill(&mut self.bytes, n);
+        disk.read(slot, self.bytes.as_mut_slice())
+    }
+
     /// An empty buffer with room for so many bytes, all of its memory taken.
     pub(crate) fn with_size(alloc: Global, size: usize) -> Result<Buf, NoMemory>
         ensures { IfOk result (λ buf. buf ≡ record { bytes = []; size = size }) }
@@ -70,5 +90,18 @@ impl Buf {
             bytes: Vec::with_capacity(alloc, size)?,
             size,
         })
+    }
+}
+
+/// Any n bytes, where there is room for them.
+fn fill(bytes: &mut Vec<u8>, n: usize)
+    requires { n ≤ vec_capacity bytes.old }
+    ensures len { vec_len bytes.new ≡ n }
+    ensures room { vec_capacity bytes.old ≤ vec_capacity bytes.new }
+{
+    bytes.clear();
+    while bytes.len() < n {
+        let more = (n - bytes.len()).min(ZEROS.len());
+        bytes.extend_from_slice(&ZEROS[..more]).unwrap();
     }
 }

@@ -3,3 +3,4 @@ pub mod Steps
 pub mod Valid
 pub mod Apart
 pub mod Fit
+pub mod Lengths

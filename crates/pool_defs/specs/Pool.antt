@@ -1,6 +1,6 @@
 -- The pool machine: its states, what may happen, and whole runs.
 -- The contents of blocks are of any type: their bytes, or where nothing else is known their lengths alone.
-use Rattle.std.specs.Prelude.{◌≡◌, ◌≢◌, ℕ, ◌+◌, ◌-◌, ◌<◌, ◌≤◌, ◌⊎◌, Bool, true, false, nat_lt, List, [], ◌∷◌, ◌++◌, length, slice_set, slice_index_or, Option, Some, None, option_map, count_by, if◌then◌else◌}
+use Rattle.std.specs.Prelude.{◌≡◌, ◌≢◌, ℕ, ◌+◌, ◌-◌, ◌<◌, ◌≤◌, ◌⊎◌, Bool, true, false, nat_lt, List, [], ◌∷◌, ◌++◌, length, map, slice_set, slice_index_or, Option, Some, None, option_map, count_by, if◌then◌else◌}
 use Rattle.pool_defs.specs.declared.block.Block.{Block}
 use Rattle.pool_defs.specs.declared.block.Place.{Place}
 use Rattle.pool_defs.specs.declared.block.Place.TheVariants.{Out, Cached, Slot}
@@ -143,3 +143,12 @@ module _ {C : Type 0} where
   abbrev pub PoolRun : PoolMachine C → List (PoolEvent C) → PoolMachine C → Type 0
   PoolRun old [] new = new ≡ old
   PoolRun old (event ∷ events) new = (next : PoolMachine C) × IsStep old event next × PoolRun next events new
+
+-- what is known of a block where only its length is
+abbrev pub length_block : Option (Block (List ℕ)) → Option (Block ℕ)
+length_block None = None
+length_block (Some block) = Some (record { content = length block.content; place = block.place })
+
+-- what is known of a state where only lengths are
+abbrev pub lengths_of : PoolMachine (List ℕ) → PoolMachine ℕ
+lengths_of pool = record { frames = pool.frames; free = pool.free; written = pool.written; blocks = map length_block pool.blocks }
