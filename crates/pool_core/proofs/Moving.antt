@@ -1,21 +1,22 @@
 -- How each call moves the states that the pool stands for.
-use Rattle.std.proofs.Common.{◌≡◌, ◌≢◌, ℕ, ◌+◌, ◌-◌, ◌<◌, ◌≤◌, ◌⊎◌, inl, inr, Bool, true, false, cond, eqb, List, [], ◌∷◌, ◌++◌, length, map, get_or, set, Option, Some, None, refl, sym, ap, ◌∙◌, subst, arith}
+use Rattle.std.proofs.Common.{◌≡◌, ◌≢◌, ℕ, ◌+◌, ◌-◌, ◌<◌, ◌≤◌, ◌⊎◌, inl, inr, Bool, true, false, cond, eqb, List, [], ◌∷◌, ◌++◌, length, map, take, get_or, set, Option, Some, None, refl, sym, ap, ◌∙◌, subst, arith}
 use Rattle.std.specs.Option.{option_map, is_some, unwrap_or, IfSome, MatchOption}
-use Rattle.std.proofs.lemmas.List.{length-map}
+use Rattle.std.proofs.lemmas.List.{length-map, take_all}
 use Rattle.std.proofs.lemmas.Bool.{cases_lt, cases_eq}
-use Rattle.dia_edge.specs.Disks.{Slots, OthersStay, IsWritten, IsFilled}
+use Rattle.dia_edge.specs.Disks.{CanFill, Slots, OthersStay, IsWritten, IsFilled}
 use Rattle.pool_defs.specs.declared.block.Block.{Block}
 use Rattle.pool_defs.specs.declared.block.Place.{Place}
 use Rattle.pool_defs.specs.declared.block.Place.TheVariants.{Out, Cached, Slot}
-use Rattle.pool_defs.specs.Pool.{PoolMachine, Evict, Frame, Seal, Give_back, Pin, Unpin, Free, placed, with_block, block_of, place_of, content_of, IsUnused, IsNew, IsValid, IsStep, MakesRoom, Evicts, Pins, Frees, lengths_of, length_block}
+use Rattle.pool_defs.specs.Pool.{is_spilled, placed_count, PoolMachine, Evict, Frame, Seal, Give_back, Pin, Unpin, Free, placed, with_block, block_of, place_of, content_of, IsUnused, IsNew, IsValid, IsStep, MakesRoom, Evicts, Pins, Frees, lengths_of, length_block}
 use Rattle.pool_defs.specs.Laws.{IsAtMost}
-use Rattle.pool_defs.proofs.Blocks.{place_at, content_at, content_at-placed, place_at-placed_same, place_at-placed_other, freed_same, freed_other, with_block_same, with_block_other}
+use Rattle.pool_defs.proofs.Blocks.{place_at, content_at, content_at-placed, place_at-placed_same, place_at-placed_other, freed_same, freed_other, with_block_same, with_block_other, count-placed}
+use Rattle.pool_defs.proofs.Steps.{room_keeps_content}
 use Rattle.pool_defs.proofs.Lengths.{block_at-lengths, place_at-lengths, content_at-lengths, lengths-placed, lengths-freed, lengths-with_block, same_machine}
 use Rattle.pool_defs.proofs.Valid.{step_valid, room_is_free, room_keeps_slot}
 use Rattle.pool_core.specs.Bufs.{Contents}
 use Rattle.pool_core.specs.Caches.{find}
 use Rattle.pool_core.specs.declared.cache.CachedBlock.{CachedBlock}
-use Rattle.pool_core.specs.Meaning.{Pool, Told, Means, StandsFor}
+use Rattle.pool_core.specs.Meaning.{IsResting, FillSlots, Pool, Told, Means, StandsFor}
 use Rattle.pool_core.proofs.Sound.{at_id, at_other}
 use Rattle.pool_core.proofs.Told.{if_told, told_at, InBuffers, in_buffers_without, in_buffers_with, told_placed, told_spilled, told_stays, told_freed, told_sealed}
 
@@ -254,10 +255,10 @@ seals slots size pool before after id buf some new fits there state means =
     no_block None is = refl
     no_block (Some block) is = cc
 
-pub restated : (slots : Option Slots) (size size_now : ℕ) (pool pool_now : PoolMachine ℕ) (cached : List CachedBlock) (state : PoolMachine (List ℕ))
-    → size_now ≡ size → pool_now ≡ pool → Means slots size pool cached state → Means slots size_now pool_now cached state
-restated slots size size_now pool pool_now cached state same_size same_pool means =
-    subst (λ s. Means slots s pool_now cached state) (sym same_size) (subst (λ p. Means slots size p cached state) (sym same_pool) means)
+pub restated : (slots : Option Slots) (size size_now : ℕ) (pool pool_now : PoolMachine ℕ) (cached cached_now : List CachedBlock) (state : PoolMachine (List ℕ))
+    → size_now ≡ size → pool_now ≡ pool → cached_now ≡ cached → Means slots size pool cached state → Means slots size_now pool_now cached_now state
+restated slots size size_now pool pool_now cached cached_now state same_size same_pool same_cached means =
+    subst (λ s. Means slots s pool_now cached_now state) (sym same_size) (subst (λ p. Means slots size p cached_now state) (sym same_pool) (subst (λ c. Means slots size pool c state) (sym same_cached) means))
 
 module _ {D : Type 0} (slots : D → Option Slots) where
   -- what is said of a value, at what it is made of
@@ -271,3 +272,85 @@ module _ {D : Type 0} (slots : D → Option Slots) where
 module _ {D : Type 0} where
   pub place_via : (inside value : Pool D) (id : ℕ) (place : Option Place) → inside ≡ value → place_of value.pool id ≡ place → place_of inside.pool id ≡ place
   place_via inside value id place is at = ap (λ (it : Pool D). place_of it.pool id) is ∙ at
+
+-- slots in use, after a block moved
+pub spilled_more : (pool : PoolMachine ℕ) (id slot : ℕ) → place_of pool id ≡ Some Cached → placed_count is_spilled (placed pool.blocks id (Slot slot)) ≡ placed_count is_spilled pool.blocks + 1
+spilled_more pool id slot at = omega (arith, count-placed is_spilled pool.blocks id (Slot slot) Cached at)
+
+pub spilled_same : (pool : PoolMachine ℕ) (id : ℕ) → place_of pool id ≡ Some Cached → placed_count is_spilled (placed pool.blocks id Out) ≡ placed_count is_spilled pool.blocks
+spilled_same pool id at = omega (arith, count-placed is_spilled pool.blocks id Out Cached at)
+
+pub spilled_less : (pool : PoolMachine ℕ) (id slot : ℕ) → place_of pool id ≡ Some (Slot slot) → placed_count is_spilled (placed pool.blocks id Out) ≤ placed_count is_spilled pool.blocks
+spilled_less pool id slot at = omega (arith, count-placed is_spilled pool.blocks id Out (Slot slot) at)
+
+-- a live block that nobody has in hand and that is in no slot is cached
+pub resting_cached : (pool : PoolMachine ℕ) (id : ℕ) (block : Block ℕ) → block_of pool id ≡ Some block → IsResting pool id → ((slot : ℕ) → block.place ≢ Slot slot) → place_of pool id ≡ Some Cached
+resting_cached pool id block is resting no_slot =
+    let at : place_of pool id ≡ Some block.place = ap (λ it. option_map (λ (b : Block ℕ). b.place) it) is in
+    at ∙ ap Some (cached block.place (subst (λ place. MatchOption place ⊥ (λ place. place ≢ Out)) at resting) no_slot)
+  where
+    cached : (place : Place) → place ≢ Out → ((slot : ℕ) → place ≢ Slot slot) → place ≡ Cached
+    cached Out not_out no_slot = absurd (not_out refl)
+    cached Cached not_out no_slot = refl
+    cached (Slot slot) not_out no_slot = absurd (no_slot slot refl)
+
+-- the slots are as long as their blocks still, after one came out
+pub fill_placed : (slots : Option Slots) (pool : PoolMachine ℕ) (free written id slot : ℕ) → place_of pool id ≡ Some (Slot slot) → FillSlots slots pool
+    → FillSlots slots (record { frames = pool.frames; free = free; written = written; blocks = placed pool.blocks id Out })
+fill_placed slots pool free written id slot is fill =
+    if_told slots (λ held. (other at : ℕ) → place_at (placed pool.blocks id Out) other ≡ Some (Slot at) → content_at (placed pool.blocks id Out) other ≡ Some (length (held at))) (λ held tells other at there.
+      let filled = told_at slots (λ held. (id slot : ℕ) → place_of pool id ≡ Some (Slot slot) → content_of pool id ≡ Some (length (held slot))) held fill tells in
+      elim (cases_eq other id) [
+        | inl same ↦
+            let now = place_at-placed_same pool.blocks id Out (Slot slot) is in
+            let here = ap (λ it. place_at (placed pool.blocks id Out) it) same in
+            absurd (cc)
+        | inr differs ↦ content_at-placed pool.blocks id Out other ∙ filled other at (sym (place_at-placed_other pool.blocks id Out other differs) ∙ there)
+      ])
+
+-- a slot has as many bytes as its block
+pub fills : (slots : Option Slots) (pool : PoolMachine ℕ) (id slot : ℕ) (block : Block ℕ) → FillSlots slots pool → place_of pool id ≡ Some (Slot slot) → block_of pool id ≡ Some block
+    → IfSome slots (λ held. block.content ≡ length (held slot))
+fills slots pool id slot block fill at is =
+    if_told slots (λ held. block.content ≡ length (held slot)) (λ held tells.
+      let filled = told_at slots (λ held. (id slot : ℕ) → place_of pool id ≡ Some (Slot slot) → content_of pool id ≡ Some (length (held slot))) held fill tells in
+      let long = filled id slot at in
+      let has = ap (λ it. option_map (λ (b : Block ℕ). b.content) it) is in
+      cc)
+
+-- what was read from its slot is the block's content
+pub shows_slot : (slots before : Option Slots) (size : ℕ) (pool : PoolMachine ℕ) (cached : List CachedBlock) (id slot : ℕ) (n : ℕ) (bytes : List ℕ) (state room : PoolMachine (List ℕ))
+    → is_some before ≡ is_some slots → place_of pool id ≡ Some (Slot slot) → MakesRoom state room → Means slots size pool cached room
+    → IsFilled slots slot bytes → length bytes ≡ n → IfSome slots (λ held. n ≡ length (held slot)) → IfSome before (λ _. content_of state id ≡ Some bytes)
+shows_slot slots before size pool cached id slot n bytes state room tells at makes means filled is_long long =
+    if_told before (λ _. content_of state id ≡ Some bytes) (λ held_before was.
+      let now = tells_before slots before held_before tells was in
+      let held = now.0 in
+      let told = told_at slots (λ held. Told held cached room) held means.told now.1 in
+      let content = told.in_slots id slot (place_in pool room id means.shape ∙ at) in
+      let front = told_at slots (λ held. bytes ≡ take (length bytes) (held slot)) held filled now.1 in
+      let same_length = told_at slots (λ held. n ≡ length (held slot)) held long now.1 in
+      let all = take_all (length bytes) (held slot) (omega (arith, is_long, same_length)) in
+      sym (room_keeps_content state room id makes) ∙ content ∙ ap Some (sym (front ∙ all)))
+
+-- a cached block's buffer has its content
+pub shows_cached : (slots : Option Slots) (size : ℕ) (pool : PoolMachine ℕ) (cached : List CachedBlock) (id : ℕ) (buf : Contents) (state : PoolMachine (List ℕ))
+    → find cached id ≡ Some buf → Means slots size pool cached state → IfSome slots (λ _. content_of state id ≡ Some buf.bytes)
+shows_cached slots size pool cached id buf state found means =
+    if_told slots (λ _. content_of state id ≡ Some buf.bytes) (λ held tells.
+      let told = told_at slots (λ held. Told held cached state) held means.told tells in
+      told.in_buffers id buf found)
+
+-- the same states, where the disk tells the same
+pub same_slots : (slots now : Option Slots) (size : ℕ) (pool : PoolMachine ℕ) (cached : List CachedBlock) (state : PoolMachine (List ℕ)) → now ≡ slots → Means slots size pool cached state → Means now size pool cached state
+same_slots slots now size pool cached state same means = subst (λ it. Means it size pool cached state) (sym same) means
+
+-- so the slot can fill so many bytes
+pub can_fill : (slots : Option Slots) (slot n : ℕ) → IfSome slots (λ held. n ≡ length (held slot)) → CanFill slots slot n
+can_fill slots slot n long =
+    if_told slots (λ held. n ≤ length (held slot)) (λ held tells. let same = told_at slots (λ held. n ≡ length (held slot)) held long tells in omega (arith, same))
+
+-- a frame that was taken and given back
+pub back_again : (pool : PoolMachine ℕ) → 0 < pool.free → record { frames = pool.frames; free = pool.free - 1 + 1; written = pool.written + 1 - 1; blocks = pool.blocks } ≡ pool
+back_again pool some =
+    same_machine (record { frames = pool.frames; free = pool.free - 1 + 1; written = pool.written + 1 - 1; blocks = pool.blocks }) pool refl (omega (arith, some)) (omega arith) refl

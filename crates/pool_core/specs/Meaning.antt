@@ -83,9 +83,9 @@ module _ {D : Type 0} (slots : D → Option Slots) where
   Shows pool id bytes =
       (state : PoolMachine (List ℕ)) → StandsFor pool state → IfSome (slots pool.disk) (λ _. content_of state id ≡ Some bytes)
 
--- the disk tells as it did, its faults and writes don't fall, and each slot more that is in use is a write that it counted
+-- the disk tells as it did, its faults and writes, which it counts in 64 bits, don't fall, and each slot more that is in use is a write that it counted
 pub record KeepsCounts {D : Type 0} (slots : D → Option Slots) (faults writes : D → ℕ) (old new : Pool D) : Type 0 where
   pub tells : is_some (slots new.disk) ≡ is_some (slots old.disk)
   pub faults_stay : faults old.disk ≤ faults new.disk
-  pub writes_stay : writes old.disk ≤ writes new.disk
+  pub writes_stay : writes old.disk < 2 ^ 64 → writes old.disk ≤ writes new.disk
   pub spills : writes new.disk < 2 ^ 64 - 1 → slots_in_use new.pool + writes old.disk ≤ slots_in_use old.pool + writes new.disk

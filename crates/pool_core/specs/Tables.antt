@@ -1,9 +1,9 @@
 -- The pool without its disk: where each block is and how long it is, and the bytes of the cached ones.
-use Rattle.std.specs.Prelude.{◌≡◌, ◌≢◌, ℕ, ◌<◌, ◌≤◌, true, ◌==◌, List, length, slice_index_or, Option, Some, None, option_map, is_some, All, if◌then◌else◌}
+use Rattle.std.specs.Prelude.{◌≡◌, ◌≢◌, ℕ, ◌-◌, ◌<◌, ◌≤◌, true, ◌==◌, List, length, slice_index_or, Option, Some, None, option_map, is_some, All, if◌then◌else◌}
 use Rattle.pool_defs.specs.declared.block.Block.{Block}
 use Rattle.pool_defs.specs.declared.block.Place.{Place}
 use Rattle.pool_defs.specs.declared.block.Place.TheVariants.{Cached, Slot}
-use Rattle.pool_defs.specs.Pool.{PoolMachine, block_of, place_of, cached_count, IsValid}
+use Rattle.pool_defs.specs.Pool.{PoolMachine, block_of, place_of, cached_count, with_block, IsNew, IsValid}
 use Rattle.pool_defs.specs.Laws.{IsAtMost}
 use Rattle.pool_core.specs.Bufs.{Contents}
 use Rattle.pool_core.specs.Numbers.{Given, is_given}
@@ -24,6 +24,13 @@ Caches old id buf new = (other : ℕ) → find new.cached other ≡ (if id == ot
 -- the block with this id is not cached, and the others are as they were
 abbrev pub Uncaches : Held → ℕ → Held → Type 0
 Uncaches old id new = (other : ℕ) → find new.cached other ≡ (if id == other then None else find old.cached other)
+
+-- the buffer's bytes are a new cached block, and a frame less is being written
+pub record Seals (old : Held) (buf : Contents) (id : ℕ) (new : Held) : Type 0 where
+  pub is_new : IsNew old.pool id
+  pub fits : length buf.bytes ≤ old.size
+  pub pool : new.pool ≡ record { frames = old.pool.frames; free = old.pool.free; written = old.pool.written - 1; blocks = with_block old.pool.blocks id (record { content = length buf.bytes; place = Cached }) }
+  pub cached : Caches old id buf new
 
 -- where the id of some freed block waits, this is one
 abbrev pub Reuses : PoolMachine ℕ → ℕ → Type 0

@@ -1,10 +1,10 @@
 //! The pool without its disk: where each block is, the frames that are free or cached, and the slots that are unused.
 ghost use Rattle.std.specs.Prelude.{◌≡◌, ℕ, ◌+◌, ◌-◌, ◌<◌, ◌≤◌, ◌↔◌, true, List, [], length, All, IfOk, OnErr, IfErr, IsTrue, IsSome, Some, None, slice_index_or, slice_set, nat_lt, ◌∷◌, ◌++◌, if◌then◌else◌, vec_len, vec_capacity};
 ghost use Rattle.pool_defs.specs.declared.block.Place.TheVariants.{Out, Cached, Slot};
-ghost use Rattle.pool_defs.specs.Pool.{opened, block_of, place_of, content_of, cached_count, placed, with_block, IsUnused, IsNew};
+ghost use Rattle.pool_defs.specs.Pool.{opened, block_of, place_of, content_of, cached_count, placed, IsUnused};
 ghost use Rattle.pool_core.specs.Numbers.{is_given, Gives};
 ghost use Rattle.pool_core.specs.Caches.{find};
-ghost use Rattle.pool_core.specs.Tables.{Caches, Uncaches, Reuses};
+ghost use Rattle.pool_core.specs.Tables.{Caches, Uncaches, Seals, Reuses};
 
 use std::alloc::Global;
 use std::marker::Model;
@@ -126,10 +126,8 @@ impl Table {
     pub(crate) fn seal(&mut self, buf: Buf) -> Result<u64, (Buf, NoMemory)>
         requires written { 0 < self.old.pool.written }
         requires size { buf.size ≡ self.old.size }
-        ensures new { IfOk result (λ id. IsNew self.old.pool id) }
+        ensures sealed { IfOk result (λ id. Seals self.old buf id self.new) }
         ensures reused { IfOk result (λ id. Reuses self.old.pool id) }
-        ensures pool { IfOk result (λ id. self.new.pool ≡ record self.old.pool { written = self.old.pool.written - 1; blocks = with_block self.old.pool.blocks id (record { content = length buf.bytes; place = Cached }) }) }
-        ensures cached { IfOk result (λ id. Caches self.old id buf self.new) }
         ensures same { (self.new.size ≡ self.old.size) × (self.new.slots ≡ self.old.slots) }
         ensures returned { IfErr result (λ refused. refused.0 ≡ buf) }
         ensures err { OnErr result (self.new ≡ self.old) }
@@ -165,6 +163,7 @@ impl Table {
     pub(crate) fn free_spilled(&mut self, id: u64, slot: u64)
         requires spilled { place_of self.old.pool id ≡ Some (Slot slot) }
         ensures pool { self.new.pool ≡ record self.old.pool { blocks = slice_set self.old.pool.blocks id None } }
+        ensures absent { find self.old.cached id ≡ None }
         ensures same { (self.new.size ≡ self.old.size) × (self.new.cached ≡ self.old.cached) }
     {
         self.blocks[id as usize] = None;

@@ -18,7 +18,7 @@ module _ {C : Type 0} where
       let is = step.1.4 in
       cc
 
-  room_keeps_content : (old new : PoolMachine C) (id : ℕ) → MakesRoom old new → content_of new id ≡ content_of old id
+  pub room_keeps_content : (old new : PoolMachine C) (id : ℕ) → MakesRoom old new → content_of new id ≡ content_of old id
   room_keeps_content old new id step = elim step [
     | inl there ↦ ap (λ it. content_of it id) there.1
     | inr evicts ↦ evicts_keeps_content old new id evicts

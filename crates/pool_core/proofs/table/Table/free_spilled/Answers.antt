@@ -35,3 +35,11 @@ invariant_of-self c =
       here = unshelved it.size (get_or blocks id None) (find it.cache.blocks id) (Slot slot) (sound.shelved id) at (λ same. cc);
     } in
     (sound_freed it.size it.frames it.written it.free.items blocks it.ids it.slots it.cache it.free.items ids slots it.cache id (Slot slot) sound freed, c.self.invariant.1)
+
+pub returns-clause-absent : goal.returns-clause-absent
+returns-clause-absent c =
+    let it = c.self.inside in
+    let id = c.args.id in
+    let slot = c.args.slot in
+    let at : place_at it.blocks.items id ≡ Some (Slot slot) = ap (λ (held : Held). place_of held.pool id) c.self.view_is ∙ c.requires.spilled in
+    ap (λ (held : Held). find held.cached id) (sym c.self.view_is) ∙ unshelved it.size (get_or it.blocks.items id None) (find it.cache.blocks id) (Slot slot) (c.self.invariant.0.shelved id) at (λ same. cc)
