@@ -1,12 +1,11 @@
 -- Numbers given out and taken back.
-use Rattle.std.proofs.Common.{◌≡◌, ◌≢◌, ℕ, zero, suc, ◌+◌, ◌<◌, ◌≤◌, ◌⊎◌, inl, inr, Bool, true, false, cond, eqb, ltb, not, ◌&&◌, ◌||◌, List, [], ◌∷◌, ◌++◌, length, get_or, refl, sym, ap, ◌∙◌, subst, arith}
+use Rattle.std.proofs.Common.{◌≡◌, ◌≢◌, ℕ, zero, suc, ◌+◌, ◌<◌, Bool, true, false, eqb, ltb, not, ◌&&◌, ◌||◌, List, [], ◌∷◌, ◌++◌, length, get_or, refl, sym, ap, ◌∙◌, subst, arith}
 use Rattle.std.specs.List.{All, AllPairs, list_any}
 use Rattle.std.proofs.lemmas.List.{get_or_at, get_or_append_left, length_push}
-use Rattle.std.proofs.lemmas.Bool.{cases_lt, cases_eq, cases_Bool}
 use Rattle.std.proofs.lemmas.Bool.Decides.{nat_tests}
 use Rattle.std.proofs.lemmas.List.Quantifiers.{all_pairs_push}
 use Rattle.pool_defs.proofs.Apart.{fewer}
-use Rattle.pool_core.specs.Numbers.{Given, is_given, Gives, Returns}
+use Rattle.pool_core.specs.Numbers.{Given, is_given, Gives}
 
 -- whether n is in a list, after a push and where it isn't
 any_push : (xs : List ℕ) (y n : ℕ) → list_any (λ other. eqb other n) (xs ++ y ∷ []) ≡ list_any (λ other. eqb other n) xs || eqb y n
@@ -65,7 +64,7 @@ gives_last next n before after is below pairs =
     let longer : length before ≡ length after + 1 = ap (λ it. length it) is ∙ length_push after n in
     let within : n < next = subst (λ it. it < next) (last 0) (below (length after) 0 (omega (arith, longer))) in
     let lacks : (k d : ℕ) → k < length after → get_or after k d ≢ n = λ k d at same.
-      pairs k (length after) d at (omega (arith, longer)) (ap (λ it. get_or it k d) is ∙ get_or_append_left after (n ∷ []) d k at ∙ same ∙ sym (last d)) in
+    pairs k (length after) d at (omega (arith, longer)) (ap (λ it. get_or it k d) is ∙ get_or_append_left after (n ∷ []) d k at ∙ same ∙ sym (last d)) in
     let gone = any_none after n lacks in
     let low : ltb n next ≡ true = grind (arith, nat_tests) in
     let here : eqb n n ≡ true = grind (arith, nat_tests) in
@@ -74,11 +73,11 @@ gives_last next n before after is below pairs =
       was_free = rw (listed, low) refl;
       is_taken = rw (gone, low) refl;
       others = λ other differs.
-        let apart : eqb n other ≡ false = grind (arith, nat_tests) in
-        let same : list_any (λ it. eqb it other) before ≡ list_any (λ it. eqb it other) after = ap (λ it. list_any (λ it. eqb it other) it) is ∙ any_push after n other ∙ rw apart (or_false (list_any (λ it. eqb it other) after)) in
-        ap (λ it. ltb other next && not it) (sym same);
+          let apart : eqb n other ≡ false = grind (arith, nat_tests) in
+          let same : list_any (λ it. eqb it other) before ≡ list_any (λ it. eqb it other) after = ap (λ it. list_any (λ it. eqb it other) it) is ∙ any_push after n other ∙ rw apart (or_false (list_any (λ it. eqb it other) after)) in
+          ap (λ it. ltb other next && not it) (sym same);
       next = let new : eqb n next ≡ false = grind (arith, nat_tests) in rw new refl;
-      returned_first = λ other under free. within
+      returned_first = λ other under free. within;
     }
   where
     or_false : (b : Bool) → b || false ≡ b

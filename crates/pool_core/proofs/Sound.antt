@@ -1,15 +1,15 @@
 -- What keeps the parts of a table together.
-use Rattle.std.proofs.Common.{◌≡◌, ◌≢◌, ℕ, ◌+◌, ◌-◌, ◌<◌, ◌≤◌, ◌⊎◌, inl, inr, Bool, true, false, cond, eqb, ltb, List, [], ◌∷◌, ◌++◌, length, get_or, set, Option, Some, None, refl, sym, ap, ◌∙◌, subst, arith}
-use Rattle.std.specs.Option.{option_map, is_some, unwrap_or, IsSome}
+use Rattle.std.proofs.Common.{◌≡◌, ◌≢◌, ℕ, ◌+◌, ◌-◌, ◌<◌, ◌≤◌, inl, inr, true, false, cond, eqb, ltb, List, [], ◌∷◌, ◌++◌, length, get_or, set, Option, Some, None, refl, sym, ap, ◌∙◌, subst, arith}
+use Rattle.std.specs.Option.{option_map, is_some, unwrap_or}
 use Rattle.std.specs.List.{All}
-use Rattle.std.proofs.lemmas.List.{get_or-set_same, get_or-set_other, get_or_past, length-set, length_push, set_at}
+use Rattle.std.proofs.lemmas.List.{get_or-set_same, get_or-set_other, length-set, length_push, set_at}
 use Rattle.std.proofs.lemmas.Bool.{cases_lt, cases_eq}
 use Rattle.std.proofs.lemmas.Bool.Decides.{nat_tests}
 use Rattle.pool_defs.specs.declared.block.Block.{Block}
 use Rattle.pool_defs.specs.declared.block.Place.{Place}
-use Rattle.pool_defs.specs.declared.block.Place.TheVariants.{Out, Cached, Slot}
-use Rattle.pool_defs.specs.Pool.{Seal, IsStep, is_out, is_cached, moved, placed, with_block, IsValid, IsUnused}
-use Rattle.pool_defs.proofs.Blocks.{place_at, content_at, live_in_range, content_at-placed, place_at-placed_same, place_at-placed_other, count-placed, count-freed, count-with_block, freed_same, freed_other, with_block_same, with_block_other}
+use Rattle.pool_defs.specs.declared.block.Place.TheVariants.{Cached, Slot}
+use Rattle.pool_defs.specs.Pool.{Seal, IsStep, is_out, is_cached, moved, placed, with_block, IsUnused}
+use Rattle.pool_defs.proofs.Blocks.{place_at, live_in_range, content_at-placed, place_at-placed_same, place_at-placed_other, count-placed, count-freed, count-with_block, freed_same, freed_other, with_block_same, with_block_other}
 use Rattle.pool_defs.proofs.Valid.{valid_placed, valid_freed, step_valid}
 use Rattle.pool_core.specs.Bufs.{Contents}
 use Rattle.pool_core.specs.Numbers.{Given, is_given, Gives, Returns}

@@ -1,9 +1,8 @@
 -- What the pool in code means: the states of the pool machine that it may stand for, and how each call moves them.
 use Rattle.std.specs.Prelude.{◌≡◌, ◌≢◌, ℕ, ◌+◌, ◌-◌, ◌^◌, ◌<◌, ◌≤◌, ◌⊎◌, List, length, Option, Some, is_some, IfSome, MatchOption}
 use Rattle.dia_edge.specs.Disks.{Slots}
-use Rattle.pool_defs.specs.declared.block.Place.{Place}
 use Rattle.pool_defs.specs.declared.block.Place.TheVariants.{Out, Slot}
-use Rattle.pool_defs.specs.Pool.{PoolMachine, PoolEvent, Evict, Frame, Unpin, block_of, content_of, place_of, cached_count, slots_in_use, IsValid, IsStep, MakesRoom, lengths_of}
+use Rattle.pool_defs.specs.Pool.{PoolMachine, PoolEvent, Evict, Unpin, block_of, content_of, place_of, cached_count, slots_in_use, IsValid, IsStep, MakesRoom, lengths_of}
 use Rattle.pool_defs.specs.Laws.{IsAtMost}
 use Rattle.pool_core.specs.Bufs.{Contents}
 use Rattle.pool_core.specs.Caches.{find}

@@ -1,5 +1,5 @@
 -- Numbers that are given out, come back, and are given out again.
-use Rattle.std.specs.Prelude.{◌≡◌, ◌≢◌, ℕ, ◌+◌, ◌<◌, Bool, true, false, not, ◌&&◌, ◌==◌, nat_lt, List, Option, Some, None, if◌then◌else◌}
+use Rattle.std.specs.Prelude.{◌≡◌, ◌≢◌, ℕ, ◌+◌, ◌<◌, Bool, true, false, not, ◌&&◌, ◌==◌, nat_lt, List, if◌then◌else◌}
 use Rattle.std.specs.List.{list_any}
 
 -- the numbers below `next` were given out at some time, and those in `returned` have come back

@@ -1,7 +1,6 @@
 -- The pool without its disk: where each block is and how long it is, and the bytes of the cached ones.
 use Rattle.std.specs.Prelude.{◌≡◌, ◌≢◌, ℕ, ◌-◌, ◌<◌, ◌≤◌, true, ◌==◌, List, length, slice_index_or, Option, Some, None, option_map, is_some, All, if◌then◌else◌}
 use Rattle.pool_defs.specs.declared.block.Block.{Block}
-use Rattle.pool_defs.specs.declared.block.Place.{Place}
 use Rattle.pool_defs.specs.declared.block.Place.TheVariants.{Cached, Slot}
 use Rattle.pool_defs.specs.Pool.{PoolMachine, block_of, place_of, cached_count, with_block, IsNew, IsValid}
 use Rattle.pool_defs.specs.Laws.{IsAtMost}

@@ -3,10 +3,9 @@ ghost use Rattle.std.specs.Prelude.{◌≡◌, ℕ, ◌+◌, ◌-◌, ◌≤◌,
 ghost use Rattle.dia_edge.specs.Counts.{HasRisen};
 ghost use Rattle.dia_edge.specs.Disks.{CanFill, IsFilled};
 
+use dia_edge::{Disk, Failed, NoMemory};
 use std::alloc::Global;
 use std::marker::Model;
-
-use dia_edge::{Disk, Failed, NoMemory};
 
 static ZEROS: [u8; 4096] = [0; 4096];
 

@@ -2,11 +2,10 @@
 ghost use Rattle.std.specs.Prelude.{◌≡◌, ℕ, ◌+◌, ◌<◌, ◌==◌, [], length, None, Some, IsSome, IfOk, OnOk, OnErr, if◌then◌else◌};
 ghost use Rattle.pool_core.specs.Caches.{find};
 
-use std::alloc::Global;
-use std::marker::Model;
-
 use crate::buf::Buf;
 use dia_edge::NoMemory;
+use std::alloc::Global;
+use std::marker::Model;
 
 /// A cached block.
 #[derive(Drop)]

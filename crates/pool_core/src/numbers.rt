@@ -2,10 +2,9 @@
 ghost use Rattle.std.specs.Prelude.{◌≡◌, ℕ, true, [], IfOk, OnErr};
 ghost use Rattle.pool_core.specs.Numbers.{is_given, Gives, Returns};
 
+use dia_edge::NoMemory;
 use std::alloc::Global;
 use std::marker::Model;
-
-use dia_edge::NoMemory;
 
 /// Gives out the numbers 0, 1, 2 and so on, and before a new one those that came back, the last one first.
 #[derive(Drop)]

@@ -1,12 +1,11 @@
 //! The pool: the table and its disk.
-use std::alloc::Global;
-use std::marker::Model;
-
 use crate::buf::Buf;
 use crate::refusals::{FrameErr, PinErr};
 use crate::table::Table;
 use dia_edge::{Disk, NoMemory};
 use pool_defs::Place;
+use std::alloc::Global;
+use std::marker::Model;
 
 /// A pool of blocks in frames of memory, which spills blocks that nobody has in hand to its disk.
 ///

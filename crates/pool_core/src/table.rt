@@ -6,14 +6,13 @@ ghost use Rattle.pool_core.specs.Numbers.{is_given, Gives};
 ghost use Rattle.pool_core.specs.Caches.{find};
 ghost use Rattle.pool_core.specs.Tables.{Caches, Uncaches, Seals, Reuses};
 
-use std::alloc::Global;
-use std::marker::Model;
-
 use crate::buf::Buf;
 use crate::cache::{Cache, CachedBlock};
 use crate::numbers::Numbers;
 use dia_edge::NoMemory;
 use pool_defs::{Block, Place};
+use std::alloc::Global;
+use std::marker::Model;
 
 /// The frames, and where each block is. A block's entry says how long it is; an id without an entry waits to be used again.
 #[derive(Drop)]

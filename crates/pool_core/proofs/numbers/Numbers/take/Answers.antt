@@ -1,4 +1,4 @@
-use Rattle.std.proofs.Common.{subst, sym}
+use Rattle.std.proofs.Common.{subst}
 use Rattle.pool_core.specs.Numbers.{Given, Gives}
 use Rattle.pool_core.proofs.Giving.{gives_last}
 use Rattle.pool_core.proofs.numbers.Numbers.take.Goals as goal

@@ -1,9 +1,9 @@
-use Rattle.std.proofs.Common.{◌≡◌, ◌≢◌, ◌+◌, ◌-◌, ◌<◌, ◌≤◌, ◌^◌, min, Some, refl, rules, ap, ◌∙◌, subst, sym, arith}
+use Rattle.std.proofs.Common.{◌≡◌, Some, refl, ap, ◌∙◌, subst, sym, arith}
 use Rattle.std.specs.Option.{option_map, is_some}
 use Rattle.dia_edge.specs.Disks.{IsWritten}
 use Rattle.pool_defs.specs.declared.block.Block.{Block}
 use Rattle.pool_defs.specs.declared.block.Place.TheVariants.{Cached}
-use Rattle.pool_defs.specs.Pool.{PoolMachine, place_of, content_of, placed_count, is_spilled, slots_in_use, IsUnused}
+use Rattle.pool_defs.specs.Pool.{PoolMachine, place_of, slots_in_use, IsUnused}
 use Rattle.pool_core.specs.Meaning.{Pool}
 use Rattle.pool_core.proofs.Moving.{evicts, fails, spilled_more, restated, stands_via}
 use Rattle.pool_core.proofs.pool.PoolState.evict.Goals as goal

@@ -1,6 +1,6 @@
-use Rattle.std.proofs.Common.{◌≡◌, ◌+◌, Some, refl, rules, ap, ◌∙◌, subst, sym, arith}
+use Rattle.std.proofs.Common.{refl, rules, ap, ◌∙◌, subst, sym, arith}
 use Rattle.std.specs.Option.{is_some}
-use Rattle.pool_defs.specs.Pool.{PoolMachine, place_of, content_of, placed_count, is_spilled, slots_in_use}
+use Rattle.pool_defs.specs.Pool.{PoolMachine, content_of, slots_in_use}
 use Rattle.pool_core.specs.Meaning.{Pool, IsResting}
 use Rattle.pool_core.proofs.Moving.{pins_cached, shows_cached, spilled_same, resting_cached, restated, stands_via, has_via}
 use Rattle.pool_core.proofs.pool.PoolState.pin.Goals as goal

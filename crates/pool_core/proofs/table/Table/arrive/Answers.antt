@@ -1,13 +1,10 @@
-use Rattle.std.proofs.Common.{◌≡◌, ◌-◌, ◌+◌, ℕ, length, get_or, Some, None, refl, sym, ap, ◌∙◌, subst, arith}
-use Rattle.std.specs.List.{All}
-use Rattle.std.proofs.lemmas.List.Elements.{All-push}
-use Rattle.pool_defs.specs.declared.block.Place.TheVariants.{Out, Cached, Slot}
-use Rattle.pool_defs.specs.Pool.{placed, place_of, content_of, IsUnused}
-use Rattle.pool_defs.proofs.Blocks.{place_at, content_at}
-use Rattle.pool_core.specs.Numbers.{is_given}
+use Rattle.std.proofs.Common.{◌≡◌, ◌-◌, get_or, Some, None, refl, sym, ap, ◌∙◌, subst, arith}
+use Rattle.pool_defs.specs.declared.block.Place.TheVariants.{Out, Slot}
+use Rattle.pool_defs.specs.Pool.{place_of}
+use Rattle.pool_defs.proofs.Blocks.{place_at}
 use Rattle.pool_core.specs.Caches.{find}
-use Rattle.pool_core.specs.Tables.{Held, machine_of, IsSound}
-use Rattle.pool_core.proofs.Sound.{IsMove, sound_placed, moved_unshelved, moved_shelved, unshelved, shelved_buf, at_id, at_other}
+use Rattle.pool_core.specs.Tables.{Held, IsSound}
+use Rattle.pool_core.proofs.Sound.{IsMove, sound_placed, moved_unshelved, unshelved}
 use Rattle.pool_core.proofs.table.Table.arrive.Goals as goal
 
 pub invariant_of-self : goal.invariant_of-self

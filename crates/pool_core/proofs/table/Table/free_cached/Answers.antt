@@ -1,15 +1,13 @@
-use Rattle.std.proofs.Common.{◌≡◌, true, ◌+◌, ◌-◌, ◌<◌, ◌≤◌, ℕ, cond, ltb, List, [], ◌∷◌, ◌++◌, length, get_or, set, Option, Some, None, refl, sym, ap, ◌∙◌, subst, arith}
+use Rattle.std.proofs.Common.{◌≡◌, ◌+◌, length, get_or, Some, None, refl, sym, ap, ◌∙◌, subst, arith}
 use Rattle.std.specs.List.{All}
 use Rattle.std.proofs.lemmas.List.Elements.{All-push}
-use Rattle.pool_defs.specs.declared.block.Block.{Block}
-use Rattle.pool_defs.specs.declared.block.Place.TheVariants.{Out, Cached, Slot}
-use Rattle.pool_defs.specs.Pool.{placed, with_block, place_of, content_of, IsUnused}
-use Rattle.pool_defs.proofs.Blocks.{place_at, content_at}
+use Rattle.pool_defs.specs.declared.block.Place.TheVariants.{Cached}
+use Rattle.pool_defs.specs.Pool.{place_of}
+use Rattle.pool_defs.proofs.Blocks.{place_at}
 use Rattle.pool_core.specs.Bufs.{Contents}
-use Rattle.pool_core.specs.Numbers.{is_given}
 use Rattle.pool_core.specs.Caches.{find}
-use Rattle.pool_core.specs.Tables.{Held, machine_of, IsSound}
-use Rattle.pool_core.proofs.Sound.{IsFreed, sound_freed, IsSealed, sound_sealed, filled, new_within, lives, unshelved, shelved_buf, at_id, at_other}
+use Rattle.pool_core.specs.Tables.{Held}
+use Rattle.pool_core.proofs.Sound.{IsFreed, sound_freed, shelved_buf, at_id, at_other}
 use Rattle.pool_core.proofs.table.Table.free_cached.Goals as goal
 
 pub invariant_of-self : goal.invariant_of-self
@@ -39,8 +37,7 @@ invariant_of-self c =
       counted = omega (arith, c.remove-buf.ensures.length);
       others = λ other differs. at_other id other (find shelf.blocks other) None (find it.cache.blocks other) (c.remove-buf.ensures.found other) differs;
       here = gone;
-    } in
-    (
+    } in (
       sound_freed it.size it.frames it.written it.free.items blocks it.ids it.slots it.cache free.items ids it.slots shelf id Cached sound freed,
       omega (arith, c.push_reserved.ensures.capacity, c.self.invariant.1),
     )

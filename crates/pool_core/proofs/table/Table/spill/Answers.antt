@@ -1,14 +1,14 @@
-use Rattle.std.proofs.Common.{◌≡◌, true, ◌+◌, ℕ, length, get_or, Some, None, refl, sym, ap, ◌∙◌, subst, arith}
+use Rattle.std.proofs.Common.{◌≡◌, true, ◌+◌, length, get_or, Some, None, refl, sym, ap, ◌∙◌, subst, arith}
 use Rattle.std.specs.List.{All}
 use Rattle.std.proofs.lemmas.List.Elements.{All-push}
-use Rattle.pool_defs.specs.declared.block.Place.TheVariants.{Out, Cached, Slot}
-use Rattle.pool_defs.specs.Pool.{placed, place_of, content_of, IsUnused}
-use Rattle.pool_defs.proofs.Blocks.{place_at, content_at}
+use Rattle.pool_defs.specs.declared.block.Place.TheVariants.{Cached, Slot}
+use Rattle.pool_defs.specs.Pool.{place_of, IsUnused}
+use Rattle.pool_defs.proofs.Blocks.{place_at}
 use Rattle.pool_core.specs.Bufs.{Contents}
 use Rattle.pool_core.specs.Numbers.{is_given}
 use Rattle.pool_core.specs.Caches.{find}
 use Rattle.pool_core.specs.Tables.{Held, machine_of, IsSound}
-use Rattle.pool_core.proofs.Sound.{IsMove, sound_placed, moved_unshelved, moved_shelved, unshelved, shelved_buf, at_id, at_other}
+use Rattle.pool_core.proofs.Sound.{IsMove, sound_placed, moved_unshelved, shelved_buf, at_id, at_other}
 use Rattle.pool_core.proofs.table.Table.spill.Goals as goal
 
 pub invariant_of-self : goal.invariant_of-self
@@ -42,8 +42,7 @@ invariant_of-self c =
       others = λ other differs. at_other id other (find shelf.blocks other) None (find it.cache.blocks other) (c.remove-buf.ensures.found other) differs;
       here = moved_unshelved it.size (get_or blocks id None) (find shelf.blocks id) (Slot slot) (λ same. cc) gone;
     } in
-    let after = sound_placed it.size it.frames it.written it.free.items blocks it.ids it.slots it.cache it.written free.items it.slots shelf id Cached (Slot slot) sound move in
-    (
+    let after = sound_placed it.size it.frames it.written it.free.items blocks it.ids it.slots it.cache it.written free.items it.slots shelf id Cached (Slot slot) sound move in (
       subst (λ blocks. IsSound it.size it.frames it.written free.items blocks it.ids it.slots shelf) (sym c.place_block.ensures) after,
       omega (arith, c.push_reserved.ensures.capacity, c.self.invariant.1),
     )
