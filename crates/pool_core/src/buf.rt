@@ -92,6 +92,15 @@ impl Buf {
     }
 }
 
+#[cfg(test)]
+impl Buf {
+    pub(crate) fn size(&self) -> usize
+        ensures { result ≡ self.now.size }
+    {
+        self.size
+    }
+}
+
 /// Any n bytes, where there is room for them.
 fn fill(bytes: &mut Vec<u8>, n: usize)
     requires { n ≤ vec_capacity bytes.old }

@@ -63,6 +63,7 @@ impl<D: Disk> PoolState<D> {
         ensures err { OnErr result (Stays D.slots self.old self.new) }
         ensures refused { IfErr result (λ refusal. RefusesFrame D.faults self.old self.new refusal) }
         ensures counts { KeepsCounts D.slots D.faults D.writes self.old self.new }
+        ensures untouched { 0 < self.old.pool.free → self.new.disk ≡ self.old.disk }
         ensures size { self.new.size ≡ self.old.size }
     {
         self.make_room()?;
@@ -97,6 +98,7 @@ impl<D: Disk> PoolState<D> {
         ensures length { IfOk result (λ buf. content_of self.old.pool id ≡ Some (length buf.bytes)) }
         ensures own { IfOk result (λ buf. buf.size ≡ self.old.size) }
         ensures cached { place_of self.old.pool id ≡ Some Cached → IsOk result }
+        ensures untouched { place_of self.old.pool id ≡ Some Cached → self.new.disk ≡ self.old.disk }
         ensures err { OnErr result (StaysOrEvicts D.slots self.old self.new) }
         ensures refused { IfErr result (λ refusal. RefusesPin D.faults self.old self.new refusal) }
         ensures counts { KeepsCounts D.slots D.faults D.writes self.old self.new }
@@ -226,5 +228,42 @@ impl<D: Disk> PoolState<D> {
     {
         let PoolState { table: _, disk } = self;
         disk
+    }
+}
+
+// What the calls ask for, as tests: a caller in this crate's tests keeps no account of his own.
+#[cfg(test)]
+impl<D: Disk> PoolState<D> {
+    ghost use Rattle.std.specs.Prelude.{◌≡◌, ◌<◌, length, Some, IsTrue};
+    ghost use Rattle.pool_defs.specs.declared.block.Place.TheVariants.{Out};
+    ghost use Rattle.pool_defs.specs.Pool.{content_of, place_of};
+    ghost use Rattle.pool_core.specs.Meaning.{HasRoom, IsResting};
+
+    pub(crate) fn has_room(&self) -> bool
+        ensures { IsTrue result → HasRoom self.now.pool }
+    {
+        self.table.has_room()
+    }
+
+    pub(crate) fn is_resting(&self, id: u64) -> bool
+        ensures { IsTrue result → IsResting self.now.pool id }
+    {
+        self.table.is_resting(id)
+    }
+
+    pub(crate) fn is_written(&self, buf: &Buf) -> bool
+        ensures { IsTrue result → (0 < self.now.pool.written) × (buf.now.size ≡ self.now.size) }
+    {
+        self.table.is_written(buf)
+    }
+
+    pub(crate) fn is_out(&self, id: u64, buf: &Buf) -> bool
+        ensures { IsTrue result → (place_of self.now.pool id ≡ Some Out) × (content_of self.now.pool id ≡ Some (length buf.now.bytes)) × (buf.now.size ≡ self.now.size) }
+    {
+        self.table.is_out(id, buf)
+    }
+
+    pub(crate) fn disk(&self) -> &D {
+        &self.disk
     }
 }

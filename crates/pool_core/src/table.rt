@@ -186,6 +186,7 @@ impl Table {
     /// its front stay cached as far as there are frames.
     pub(crate) fn victim(&self) -> &CachedBlock
         requires some { 0 < cached_count self.now.pool }
+        ensures last { result.now ≡ slice_index_or self.now.cached (length self.now.cached - 1) result.now }
         ensures found { find self.now.cached result.now.id ≡ Some result.now.buf }
         ensures block { block_of self.now.pool result.now.id ≡ Some (record { content = length result.now.buf.bytes; place = Cached }) }
     {
@@ -222,6 +223,56 @@ impl Table {
         place_block(&mut self.blocks, id, Place::Slot(slot));
         let buf = self.cache.remove(id);
         self.free.push_reserved(buf);
+    }
+}
+
+// What the calls of the pool ask for, as tests.
+#[cfg(test)]
+impl Table {
+    ghost use Rattle.pool_core.specs.Meaning.{HasRoom, IsResting};
+
+    fn find(&self, id: u64) -> Option<Block<usize>>
+        ensures { result ≡ block_of self.now.pool id }
+    {
+        if id < self.blocks.len() as u64 {
+            self.blocks[id as usize]
+        } else {
+            None
+        }
+    }
+
+    pub(crate) fn has_room(&self) -> bool
+        ensures { IsTrue result → HasRoom self.now.pool }
+    {
+        !self.free.is_empty() || self.cache.len() > 0
+    }
+
+    pub(crate) fn is_resting(&self, id: u64) -> bool
+        ensures { IsTrue result → IsResting self.now.pool id }
+    {
+        match self.find(id) {
+            Some(block) => !matches!(block.place, Place::Out),
+            None => false,
+        }
+    }
+
+    pub(crate) fn is_written(&self, buf: &Buf) -> bool
+        ensures { IsTrue result → (0 < self.now.pool.written) × (buf.now.size ≡ self.now.size) }
+    {
+        self.written > 0 && buf.size() == self.size
+    }
+
+    pub(crate) fn is_out(&self, id: u64, buf: &Buf) -> bool
+        ensures { IsTrue result → (place_of self.now.pool id ≡ Some Out) × (content_of self.now.pool id ≡ Some (length buf.now.bytes)) × (buf.now.size ≡ self.now.size) }
+    {
+        match self.find(id) {
+            Some(block) => {
+                matches!(block.place, Place::Out)
+                    && block.content == buf.len()
+                    && buf.size() == self.size
+            }
+            None => false,
+        }
     }
 }
 

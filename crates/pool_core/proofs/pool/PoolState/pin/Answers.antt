@@ -28,6 +28,7 @@ returns-in_default g c =
       length = ap (λ (pool : Pool g.row.D.Denot). content_of pool.pool id) (sym c.self.view_is) ∙ gives.length;
       own = gives.size ∙ same_size;
       cached = search rules;
+      untouched = λ cached. same_disk;
       err = search rules;
       refused = search rules;
       counts = record {
