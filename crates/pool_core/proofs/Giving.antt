@@ -1,11 +1,12 @@
 -- Numbers given out and taken back.
-use Rattle.std.proofs.Common.{◌≡◌, ◌≢◌, ℕ, zero, suc, ◌+◌, ◌<◌, Bool, true, false, eqb, ltb, not, ◌&&◌, ◌||◌, List, [], ◌∷◌, ◌++◌, length, get_or, refl, sym, ap, ◌∙◌, subst, arith}
+use Rattle.std.proofs.Common.{◌≡◌, ◌≢◌, ℕ, zero, suc, ◌+◌, ◌<◌, Bool, true, false, eqb, ltb, not, ◌&&◌, ◌||◌, List, [], ◌∷◌, ◌++◌, length, get_or, refl, sym, ap, ◌∙◌, subst, arith, ◌-◌, inl, inr, ◌⊎◌}
 use Rattle.std.specs.List.{All, AllPairs, list_any}
-use Rattle.std.proofs.lemmas.List.{get_or_at, get_or_append_left, length_push}
+use Rattle.std.proofs.lemmas.List.{get_or_at, get_or_append_left, length_push, get_or_past}
+use Rattle.std.proofs.lemmas.Bool.{cases_lt, cases_eq, cases_Bool}
 use Rattle.std.proofs.lemmas.Bool.Decides.{nat_tests}
 use Rattle.std.proofs.lemmas.List.Quantifiers.{all_pairs_push}
 use Rattle.pool_defs.proofs.Apart.{fewer}
-use Rattle.pool_core.specs.Numbers.{Given, is_given, Gives}
+use Rattle.pool_core.specs.Numbers.{Given, upcoming, is_given, Gives}
 
 -- whether n is in a list, after a push and where it isn't
 any_push : (xs : List ℕ) (y n : ℕ) → list_any (λ other. eqb other n) (xs ++ y ∷ []) ≡ list_any (λ other. eqb other n) xs || eqb y n
@@ -57,9 +58,9 @@ pairs_after given n is pairs =
     all_pairs_push (λ it other. it ≢ other) given.returned n pairs (λ k d below. parts.1 k d below)
 
 -- the last number that came back is given out again
-pub gives_last : (next n : ℕ) (before after : List ℕ) → before ≡ after ++ n ∷ [] → All (λ it. it < next) before → AllPairs (λ it other. it ≢ other) before
-    → Gives (record { next = next; returned = before }) (record { next = next; returned = after }) n
-gives_last next n before after is below pairs =
+pub gives_last : (next n room room_after : ℕ) (before after : List ℕ) → before ≡ after ++ n ∷ [] → All (λ it. it < next) before → AllPairs (λ it other. it ≢ other) before
+    → Gives (record { next = next; returned = before; room = room }) (record { next = next; returned = after; room = room_after }) n
+gives_last next n room room_after before after is below pairs =
     let last : (d : ℕ) → get_or before (length after) d ≡ n = λ d. ap (λ it. get_or it (length after) d) is ∙ get_or_at after n [] d (length after) refl in
     let longer : length before ≡ length after + 1 = ap (λ it. length it) is ∙ length_push after n in
     let within : n < next = subst (λ it. it < next) (last 0) (below (length after) 0 (omega (arith, longer))) in
@@ -77,9 +78,50 @@ gives_last next n before after is below pairs =
           let same : list_any (λ it. eqb it other) before ≡ list_any (λ it. eqb it other) after = ap (λ it. list_any (λ it. eqb it other) it) is ∙ any_push after n other ∙ rw apart (or_false (list_any (λ it. eqb it other) after)) in
           ap (λ it. ltb other next && not it) (sym same);
       next = let new : eqb n next ≡ false = grind (arith, nat_tests) in rw new refl;
+      one_more = omega (arith, longer);
       returned_first = λ other under free. within;
     }
   where
     or_false : (b : Bool) → b || false ≡ b
     or_false true = refl
     or_false false = refl
+
+any_at : (xs : List ℕ) (n k d : ℕ) → k < length xs → get_or xs k d ≡ n → list_any (λ other. eqb other n) xs ≡ true
+any_at xs n k d below is = elim (cases_Bool (list_any (λ other. eqb other n) xs)) [
+  | inl some ↦ some
+  | inr none ↦ absurd (none_any xs n none k d below is)
+]
+
+-- the number that is given out next is not given out
+pub upcoming_free : (given : Given) → is_given given (upcoming given) ≡ false
+upcoming_free given = elim (cases_lt 0 (length given.returned)) [
+  | inl some ↦
+      let listed = any_at given.returned (upcoming given) (length given.returned - 1) given.next (omega (arith, some)) refl in
+      neither (ltb (upcoming given) given.next) (list_any (λ other. eqb other (upcoming given)) given.returned) listed
+  | inr none ↦
+      let last : upcoming given ≡ given.next = get_or_past given.returned (length given.returned - 1) given.next (omega (arith, none)) in
+      let high : ltb (upcoming given) given.next ≡ false = grind (arith, nat_tests) in
+      first (ltb (upcoming given) given.next) (list_any (λ other. eqb other (upcoming given)) given.returned) high
+]
+  where
+    neither : (a b : Bool) → b ≡ true → a && not b ≡ false
+    neither true true is = refl
+    neither false true is = refl
+    neither true false is = cc
+    neither false false is = cc
+
+    first : (a b : Bool) → a ≡ false → a && not b ≡ false
+    first true b is = cc
+    first false b is = refl
+
+-- which numbers are given out doesn't hang on the room
+pub same_given : (a b : Given) (n : ℕ) → a.next ≡ b.next → a.returned ≡ b.returned → is_given a n ≡ is_given b n
+same_given a b n next returned =
+    ap (λ it. ltb n it && not (list_any (λ other. eqb other n) a.returned)) next ∙ ap (λ it. ltb n b.next && not (list_any (λ other. eqb other n) it)) returned
+
+-- a number that was given out is given out still after another one is
+pub still_given : (old new : Given) (n other : ℕ) → Gives old new n → is_given old other ≡ true → is_given new other ≡ true
+still_given old new n other gives given = elim (cases_eq other n) [
+  | inl same ↦ ap (λ it. is_given new it) same ∙ gives.is_taken
+  | inr differs ↦ gives.others other differs ∙ given
+]

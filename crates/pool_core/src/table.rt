@@ -1,8 +1,8 @@
 //! The pool without its disk: where each block is, the frames that are free or cached, and the slots that are unused.
-ghost use Rattle.std.specs.Prelude.{◌≡◌, ℕ, ◌+◌, ◌-◌, ◌<◌, ◌≤◌, ◌↔◌, true, List, [], length, All, IfOk, OnErr, IfErr, IsTrue, IsSome, Some, None, slice_index_or, slice_set, nat_lt, ◌∷◌, ◌++◌, if◌then◌else◌, vec_len, vec_capacity};
+ghost use Rattle.std.specs.Prelude.{◌≡◌, ℕ, ◌+◌, ◌-◌, ◌<◌, ◌≤◌, ◌↔◌, true, List, [], length, All, IfOk, OnOk, OnErr, IfErr, IsTrue, IsSome, Some, None, slice_index_or, slice_set, nat_lt, ◌∷◌, ◌++◌, if◌then◌else◌, vec_len, vec_capacity};
 ghost use Rattle.pool_defs.specs.declared.block.Place.TheVariants.{Out, Cached, Slot};
 ghost use Rattle.pool_defs.specs.Pool.{opened, block_of, place_of, content_of, cached_count, placed, IsUnused};
-ghost use Rattle.pool_core.specs.Numbers.{is_given, Gives};
+ghost use Rattle.pool_core.specs.Numbers.{upcoming, IsReady, Gives};
 ghost use Rattle.pool_core.specs.Caches.{find};
 ghost use Rattle.pool_core.specs.Tables.{Caches, Uncaches, Seals, Reuses};
 
@@ -193,33 +193,25 @@ impl Table {
         self.cache.last()
     }
 
-    /// A slot in which no block is, to be written. It is for this table's next spill, or comes back.
-    pub(crate) fn take_slot(&mut self) -> Result<u64, NoMemory>
-        ensures given { IfOk result (λ slot. is_given self.new.slots slot ≡ true) }
+    /// The slot for the next spill, in which no block is; that of a block that came back or is gone, where there is one.
+    pub(crate) fn prepare_slot(&mut self) -> Result<u64, NoMemory>
+        ensures upcoming { IfOk result (λ slot. slot ≡ upcoming self.new.slots) }
+        ensures ready { OnOk result (IsReady self.new.slots) }
         ensures unused { IfOk result (λ slot. IsUnused self.old.pool slot) }
         ensures same { (self.new.pool ≡ self.old.pool) × (self.new.size ≡ self.old.size) × (self.new.cached ≡ self.old.cached) }
     {
-        self.slots.take()
+        self.slots.prepare()
     }
 
-    /// A slot that was taken comes back.
-    pub(crate) fn return_slot(&mut self, slot: u64)
-        requires given { is_given self.old.slots slot ≡ true }
-        requires unused { IsUnused self.old.pool slot }
-        ensures { (self.new.pool ≡ self.old.pool) × (self.new.size ≡ self.old.size) × (self.new.cached ≡ self.old.cached) }
-    {
-        self.slots.give(slot);
-    }
-
-    /// A cached block is in the slot, and its frame is free.
-    pub(crate) fn spill(&mut self, id: u64, slot: u64)
+    /// A cached block is in the slot that was prepared, and its frame is free.
+    pub(crate) fn spill(&mut self, id: u64)
         requires cached { place_of self.old.pool id ≡ Some Cached }
-        requires given { is_given self.old.slots slot ≡ true }
-        requires unused { IsUnused self.old.pool slot }
-        ensures pool { self.new.pool ≡ record self.old.pool { free = self.old.pool.free + 1; blocks = placed self.old.pool.blocks id (Slot slot) } }
+        requires ready { IsReady self.old.slots }
+        ensures pool { self.new.pool ≡ record self.old.pool { free = self.old.pool.free + 1; blocks = placed self.old.pool.blocks id (Slot (upcoming self.old.slots)) } }
         ensures cached { Uncaches self.old id self.new }
         ensures size { self.new.size ≡ self.old.size }
     {
+        let slot = self.slots.take();
         place_block(&mut self.blocks, id, Place::Slot(slot));
         let buf = self.cache.remove(id);
         self.free.push_reserved(buf);
@@ -320,7 +312,8 @@ fn new_id(
     if cache.ids() == blocks.len() {
         cache.add_id()?;
     }
-    let id = ids.take()?;
+    ids.prepare()?;
+    let id = ids.take();
     if id as usize == blocks.len() {
         blocks.push_reserved(None);
     }
