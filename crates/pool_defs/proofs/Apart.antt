@@ -1,5 +1,5 @@
 -- Numbers that are apart: what stands at them, and how many there may be.
-use Rattle.std.proofs.Common.{◌≡◌, ◌≢◌, ℕ, suc, ◌+◌, ◌*◌, ◌<◌, ◌≤◌, ◌⊎◌, inl, inr, Bool, true, false, cond, List, [], ◌∷◌, length, get_or, set, replicate, refl, sym, ap, ◌∙◌, arith}
+use Rattle.std.proofs.Common.{◌≡◌, ◌≢◌, ℕ, suc, ◌+◌, ◌<◌, ◌≤◌, inl, inr, Bool, true, false, cond, List, [], ◌∷◌, length, get_or, set, replicate, refl, sym, ap, ◌∙◌, arith}
 use Rattle.std.specs.List.{AllPairs, All, sum_by}
 use Rattle.std.proofs.lemmas.List.{get_or-set_other, get_or_past, set_past, get_or-replicate, length-replicate}
 use Rattle.std.proofs.lemmas.List.Sums.{sum_by-set, sum_by-cons}
@@ -57,12 +57,11 @@ fewer ids limit n below pairs within lacks =
     let weight : Bool → ℕ = λ it. cond it 1 0 in
     let all = weigh_apart weight false refl ids others (apart_from_pairs ids pairs) in
     let ones = sum_by_agree (λ id. weight (get_or others id false)) (λ _. 1) ids (λ k d at.
-      let there = get_or-set_other present n (get_or ids k d) false false (lacks k d at) in
-      let is = get_or-replicate limit (get_or ids k d) true false (below k d at) in
-      ap {B = ℕ} weight (there ∙ is)) in
+    let there = get_or-set_other present n (get_or ids k d) false false (lacks k d at) in
+    let is = get_or-replicate limit (get_or ids k d) true false (below k d at) in
+    ap {B = ℕ} weight (there ∙ is)) in
     let many = sum_by_one ids in
     let sums = sum_by-set weight present n false false (omega (arith, length-replicate limit true)) in
     let here = ap {B = ℕ} weight (get_or-replicate limit n true false within) in
     let total = sum_by-replicate weight limit true in
     omega (arith, all, ones, many, sums, here, total)
-

@@ -54,7 +54,7 @@ module _ {C : Type 0} where
     frames_add_up =
         let outs = count-placed is_out old.blocks id to was is in
         let cacheds = count-placed is_cached old.blocks id to was is in
-        omega (arith, outs, cacheds, sum, valid.frames_add_up)
+        omega (arith, outs, cacheds, sum, valid.frames_add_up);
   }
 
   -- a block that is gone
@@ -66,24 +66,13 @@ module _ {C : Type 0} where
     frames_add_up =
         let outs = count-freed is_out old.blocks id was is in
         let cacheds = count-freed is_cached old.blocks id was is in
-        omega (arith, outs, cacheds, sum, valid.frames_add_up)
+        omega (arith, outs, cacheds, sum, valid.frames_add_up);
   }
 
   evicts_valid : (old new : PoolMachine C) → IsValid old → Evicts old new → IsValid new
   evicts_valid old new valid step =
-      let id = step.1.0 in
-      let slot = step.1.1 in
-      let was = step.1.2 in
-      let unused = step.1.3 in
-      let next : PoolMachine C = record { frames = old.frames; free = old.free + 1; written = old.written; blocks = placed old.blocks id (Slot slot) } in
-      let valid_next : IsValid next = record {
-        slots_differ = differ_placed old.blocks id (Slot slot) Cached was (λ other same it. let back : slot ≡ other = cc in subst (λ s. place_of old it ≢ Some (Slot s)) back (unused it)) valid.slots_differ;
-        frames_add_up =
-            let outs = count-placed is_out old.blocks id (Slot slot) Cached was in
-            let cacheds = count-placed is_cached old.blocks id (Slot slot) Cached was in
-            omega (arith, outs, cacheds, valid.frames_add_up);
-      } in
-      subst IsValid (sym step.1.4) valid_next
+      let unused : (other : ℕ) → Slot step.1.1 ≡ Slot other → IsUnused old other = λ other same. let back : step.1.1 ≡ other = cc in subst (IsUnused old) back step.1.3 in
+      subst IsValid (sym step.1.4) (valid_placed old (old.free + 1) old.written step.1.0 (Slot step.1.1) Cached step.1.2 unused valid (omega arith))
 
   room_valid : (old new : PoolMachine C) → IsValid old → MakesRoom old new → IsValid new
   room_valid old new valid step = elim step [
@@ -109,53 +98,18 @@ module _ {C : Type 0} where
 
   pins_valid : (old new : PoolMachine C) (id : ℕ) (place : Option Place) → place_of old id ≡ place → IsValid old → Pins old id place new → IsValid new
   pins_valid old new id (Some Cached) is valid step =
-      let next : PoolMachine C = record { frames = old.frames; free = old.free; written = old.written; blocks = placed old.blocks id Out } in
-      let valid_next : IsValid next = record {
-        slots_differ = differ_placed old.blocks id Out Cached is (λ other same it. absurd (cc)) valid.slots_differ;
-        frames_add_up =
-            let outs = count-placed is_out old.blocks id Out Cached is in
-            let cacheds = count-placed is_cached old.blocks id Out Cached is in
-            omega (arith, outs, cacheds, valid.frames_add_up);
-      } in
-      subst IsValid (sym step) valid_next
+      subst IsValid (sym step) (valid_placed old old.free old.written id Out Cached is (λ slot same. absurd (cc)) valid (omega arith))
   pins_valid old new id (Some (Slot slot)) is valid step =
       let room = step.0 in
-      let valid_room = room_valid old room valid step.1 in
       let has = room_is_free old room step.1 in
       let was = room_keeps_slot old room id slot step.1 is in
-      let next : PoolMachine C = record { frames = room.frames; free = room.free - 1; written = room.written; blocks = placed room.blocks id Out } in
-      let valid_next : IsValid next = record {
-        slots_differ = differ_placed room.blocks id Out (Slot slot) was (λ other same it. absurd (cc)) valid_room.slots_differ;
-        frames_add_up =
-            let outs = count-placed is_out room.blocks id Out (Slot slot) was in
-            let cacheds = count-placed is_cached room.blocks id Out (Slot slot) was in
-            omega (arith, outs, cacheds, valid_room.frames_add_up);
-      } in
-      subst IsValid (sym step.2) valid_next
+      subst IsValid (sym step.2) (valid_placed room (room.free - 1) room.written id Out (Slot slot) was (λ other same. absurd (cc)) (room_valid old room valid step.1) (omega (arith, has)))
   pins_valid old new id (Some Out) is valid step = absurd step
   pins_valid old new id None is valid step = absurd step
 
   frees_valid : (old new : PoolMachine C) (id : ℕ) (place : Option Place) → place_of old id ≡ place → IsValid old → Frees old id place new → IsValid new
-  frees_valid old new id (Some Cached) is valid step =
-      let next : PoolMachine C = record { frames = old.frames; free = old.free + 1; written = old.written; blocks = set old.blocks id None } in
-      let valid_next : IsValid next = record {
-        slots_differ = differ_freed old.blocks id valid.slots_differ;
-        frames_add_up =
-            let outs = count-freed is_out old.blocks id Cached is in
-            let cacheds = count-freed is_cached old.blocks id Cached is in
-            omega (arith, outs, cacheds, valid.frames_add_up);
-      } in
-      subst IsValid (sym step) valid_next
-  frees_valid old new id (Some (Slot slot)) is valid step =
-      let next : PoolMachine C = record { frames = old.frames; free = old.free; written = old.written; blocks = set old.blocks id None } in
-      let valid_next : IsValid next = record {
-        slots_differ = differ_freed old.blocks id valid.slots_differ;
-        frames_add_up =
-            let outs = count-freed is_out old.blocks id (Slot slot) is in
-            let cacheds = count-freed is_cached old.blocks id (Slot slot) is in
-            omega (arith, outs, cacheds, valid.frames_add_up);
-      } in
-      subst IsValid (sym step) valid_next
+  frees_valid old new id (Some Cached) is valid step = subst IsValid (sym step) (valid_freed old (old.free + 1) id Cached is valid (omega arith))
+  frees_valid old new id (Some (Slot slot)) is valid step = subst IsValid (sym step) (valid_freed old old.free id (Slot slot) is valid (omega arith))
   frees_valid old new id (Some Out) is valid step = absurd step
   frees_valid old new id None is valid step = absurd step
 
@@ -185,15 +139,7 @@ module _ {C : Type 0} where
       subst IsValid (sym step.1) valid_next
   step_valid old new (Pin id) valid step = pins_valid old new id (place_of old id) refl valid step
   step_valid old new (Unpin id) valid step =
-      let next : PoolMachine C = record { frames = old.frames; free = old.free; written = old.written; blocks = placed old.blocks id Cached } in
-      let valid_next : IsValid next = record {
-        slots_differ = differ_placed old.blocks id Cached Out step.0 (λ other same it. absurd (cc)) valid.slots_differ;
-        frames_add_up =
-            let outs = count-placed is_out old.blocks id Cached Out step.0 in
-            let cacheds = count-placed is_cached old.blocks id Cached Out step.0 in
-            omega (arith, outs, cacheds, valid.frames_add_up);
-      } in
-      subst IsValid (sym step.1) valid_next
+      subst IsValid (sym step.1) (valid_placed old old.free old.written id Cached Out step.0 (λ slot same. absurd (cc)) valid (omega arith))
   step_valid old new (Free id) valid step = frees_valid old new id (place_of old id) refl valid step
 
 pub opened_valid : (C : Type 0) (frames : ℕ) → IsValid (opened C frames)
