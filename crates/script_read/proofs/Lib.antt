@@ -1,3 +1,4 @@
 pub mod Printables
 pub mod Counting
 pub mod LineLemmas
+pub mod SoundLemmas

@@ -1,6 +1,7 @@
 //! Reads a script.
 ghost use Rattle.std.specs.Prelude.{◌≡◌, ◌<◌, ◌≤◌, nat_lt, ℕ, ◌+◌, List, [], length, map, IfOk, IfErr, OnOk, Ok, Err, ◌∷◌, ◌++◌};
 ghost use Rattle.dia_defs.specs.Scripts.{line, act};
+ghost use Rattle.dia_defs.specs.Sound.{IsSound};
 ghost use Rattle.dia_item.specs.KindList.{kind_list};
 ghost use Rattle.dia_defs.specs.Pieces.{pieces_from, lines_of};
 ghost use Rattle.dia_defs.specs.Reading.{reading_of, reading_from, nothing_known, known_after, ReadsAs};
@@ -122,6 +123,7 @@ impl Reader {
 #[tactic(auto, unfolding(dia_defs::specs::Reading::reading_of))]
 pub fn read_script(alloc: Global, bytes: &[u8]) -> Result<Script, ReadErr>
     ensures ok { IfOk result (λ script. ReadsAs bytes.now script) }
+    ensures sound { IfOk result (λ script. IsSound nothing_known 1 script) }
     ensures refused { IfErr result (λ e. IsReason e (reading_of bytes.now)) }
 {
     if bytes.len() > SCRIPT_LIMIT || has_too_many_lines(bytes) {
@@ -136,6 +138,7 @@ pub fn read_script(alloc: Global, bytes: &[u8]) -> Result<Script, ReadErr>
 fn read_lines(alloc: Global, bytes: &[u8]) -> Result<Script, ReadErr>
     requires { length bytes.now ≤ SCRIPT_LIMIT }
     ensures ok { IfOk result (λ script. reading_from nothing_known 1 (lines_of bytes.now) ≡ Ok script) }
+    ensures sound { IfOk result (λ script. IsSound nothing_known 1 script) }
     ensures refused { IfErr result (λ e. IsReason e (reading_from nothing_known 1 (lines_of bytes.now))) }
 {
     let mut reader = Reader {
