@@ -3,7 +3,7 @@ ghost use Rattle.std.specs.Prelude.{◌≡◌, ◌+◌, ◌≤◌, ◌<◌, ◌^
 ghost use Rattle.dia_defs.specs.Lists.{longest_input};
 ghost use Rattle.dia_edge.specs.Counts.{HasRisen};
 ghost use Rattle.dia_edge.specs.Shelves.{GivesFront, IsAtEnd};
-ghost use Rattle.dia_lines.specs.Taking.{HasTaken};
+ghost use Rattle.dia_lines.specs.Taking.{HasTaken, AreRead};
 ghost use Rattle.dia_lines.specs.Inputs.{IsInputReason, IsReading, IsInput, IsReadFault, IsReasonOf};
 
 use crate::line_rows::LineRows;
@@ -163,6 +163,7 @@ fn take_all<N: Shelf>(
 /// Reads the opened input to its end.
 fn read_opened<N: Shelf>(alloc: Global, shelf: &mut N) -> Result<LineRows, InputErr>
     ensures read { IfOk result (λ rows. IfSome (N.left shelf.old) (λ bytes. IsInput rows (Some bytes))) }
+    ensures lines { IfOk result (λ rows. (bytes : List ℕ) × AreRead rows bytes) }
     ensures refused { IfErr result (λ e. IfSome (N.left shelf.old) (λ bytes. IsInputReason e (Some bytes))) }
     ensures fault { IfErr result (λ e. IsReadFault e (N.faults shelf.old) (N.faults shelf.new)) }
     ensures counts { N.faults shelf.old ≤ N.faults shelf.new }
@@ -181,6 +182,8 @@ fn read_opened<N: Shelf>(alloc: Global, shelf: &mut N) -> Result<LineRows, Input
 /// After a refusal the shelf stands anywhere in the input.
 pub fn read_input<N: Shelf>(alloc: Global, shelf: &mut N, name: &Name) -> Result<LineRows, InputErr>
     ensures read { N.is_fixed shelf.old ≡ true → IfOk result (λ rows. IfSome (N.holds shelf.old) (λ held. IsInput rows (held name.now))) }
+    // Whatever the shelf tells, the rows are those of the lines of the bytes that it gave.
+    ensures lines { IfOk result (λ rows. (bytes : List ℕ) × AreRead rows bytes) }
     ensures refused { N.is_fixed shelf.old ≡ true → IfErr result (λ e. IfSome (N.holds shelf.old) (λ held. IsInputReason e (held name.now))) }
     ensures fault { IfErr result (λ e. IsReadFault e (N.faults shelf.old) (N.faults shelf.new)) }
     ensures counts { N.faults shelf.old ≤ N.faults shelf.new }
