@@ -1,1 +1,5 @@
 pub mod Exprs
+pub mod Typing
+pub mod Pieces
+pub mod Runs
+pub mod Digits

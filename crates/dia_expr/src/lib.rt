@@ -6,8 +6,13 @@
 
 mod evaluate;
 mod expr;
+mod kinds;
+mod math;
+mod piece;
 mod spelling;
+mod texts;
 
-pub use evaluate::{eval, kind_of};
-pub use expr::Expr;
+pub use evaluate::{eval, eval_int};
+pub use expr::{Comparison, Expr, Literal, Math, Part};
+pub use kinds::{KindErr, kind_of};
 pub use spelling::read_expr;

@@ -9,4 +9,4 @@ pub unreachable-requires : goal.unreachable-requires
 unreachable-requires c =
     let whole : length c.as_slice.result.now ≡ length c.args.exprs.now =
     ap length c.as_slice.ensures.value ∙ ap length c.in_ok-kinds.ensures ∙ length-filter_map _ _ c.requires.kinds ∙ length-map c.args.exprs.now expr_in in
-    false≢true (c.in-None.ensures.none.1 (omega arith, omega arith))
+    false≢true (c.in-None.ensures.some.1 (omega arith, omega arith))
