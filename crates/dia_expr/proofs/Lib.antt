@@ -1,3 +1,5 @@
 pub mod WordLemmas
 pub mod DigitLemmas
 pub mod KindLemmas
+pub mod Answered
+pub mod ReadLemmas

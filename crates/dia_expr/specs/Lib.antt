@@ -1,4 +1,6 @@
 pub mod Exprs
+pub mod Beginnings
+pub mod Reads
 pub mod Typing
 pub mod Pieces
 pub mod Runs

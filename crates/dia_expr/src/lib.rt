@@ -9,6 +9,7 @@ mod expr;
 mod kinds;
 mod math;
 mod piece;
+mod read;
 mod spelling;
 mod texts;
 
