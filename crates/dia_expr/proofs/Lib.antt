@@ -3,3 +3,4 @@ pub mod DigitLemmas
 pub mod KindLemmas
 pub mod Answered
 pub mod ReadLemmas
+pub mod FaultLemmas

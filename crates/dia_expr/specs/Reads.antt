@@ -44,6 +44,13 @@ IsStopAt k BadForm words =
 IsStopAt k BadNumber words = ⊥
 IsStopAt k NoMemory words = Unit {0}
 
+-- the reading of a list of expressions stops
+abbrev pub IsListStop : errors.ExprErr → List (List ℕ) → Type 0
+IsListStop UnknownWord words = list_any begins_none words ≡ true
+IsListStop BadForm words = (list_any begins_none words ≡ false) × (exprs_of words ≡ None)
+IsListStop BadNumber words = ⊥
+IsListStop NoMemory words = Unit {0}
+
 -- a refusal is the one that the words have
 abbrev pub IsFault : errors.ExprErr → Option causes.Cause → Type 0
 IsFault BadForm fault = fault ≡ Some cause.BadForm

@@ -16,4 +16,5 @@ mod texts;
 pub use evaluate::{eval, eval_int};
 pub use expr::{Comparison, Expr, Literal, Math, Part};
 pub use kinds::{KindErr, kind_of};
+pub use read::{ExprErr, read_exprs, read_one, read_words};
 pub use spelling::read_expr;

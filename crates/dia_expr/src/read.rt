@@ -1,10 +1,12 @@
 //! Reads expressions from words.
-ghost use Rattle.std.specs.Prelude.{◌≡◌, ◌<◌, ◌≤◌, ◌∷◌, [], None, Some, IfOk, IfErr, length, map};
+ghost use Rattle.std.specs.Prelude.{◌≡◌, ◌<◌, ◌≤◌, ◌∷◌, ◌++◌, [], OnOk, None, Some, false, IfOk, IfErr, length, map};
+ghost use Rattle.std.specs.List.{list_any};
+ghost use Rattle.std.specs.Option.{option_map};
 ghost use Rattle.dia_defs.specs.Pieces.{words_of};
-ghost use Rattle.dia_defs.specs.Expressions.{exprs_of, list_fault, one_fault, number_fault, and_operands};
+ghost use Rattle.dia_defs.specs.Expressions.{begins_none, is_bad_number, exprs_of, list_fault, one_fault, and_operands};
 ghost use Rattle.dia_expr.specs.Exprs.{expr_in};
 ghost use Rattle.dia_expr.specs.Beginnings.{form_in};
-ghost use Rattle.dia_expr.specs.Reads.{words_in, IsRead, IsPairRead, IsFormRead, IsStopAt, IsFault};
+ghost use Rattle.dia_expr.specs.Reads.{words_in, IsRead, IsPairRead, IsFormRead, IsStopAt, IsListStop, IsFault};
 
 use crate::expr::{Expr, boxed};
 use crate::spelling::{Beginning, Form, beginning_of, is_bad_number};
@@ -112,4 +114,71 @@ fn read_form<'w, 'a>(
             Ok((boxed(alloc, Expr::If(c, x, y))?, rest))
         }
     }
+}
+
+/// Whether a word begins with a digit and spells no number.
+fn has_bad_number(words: &[&[u8]]) -> bool
+    ensures { result ≡ list_any is_bad_number (words_in words.now) }
+{
+    for word in words {
+        if is_bad_number(word) {
+            return true;
+        }
+    }
+    false
+}
+
+/// Puts the expressions that the words are behind those that were read. A bad number counts as 0.
+fn read_onto(alloc: Global, words: &[&[u8]], exprs: &mut Vec<Expr>) -> Result<(), ExprErr>
+    ensures read { OnOk result (option_map (λ more. map expr_in exprs.old.items ++ more) (exprs_of (words_in words.now)) ≡ Some (map expr_in exprs.new.items)) }
+    ensures known { OnOk result (list_any begins_none (words_in words.now) ≡ false) }
+    ensures stop { IfErr result (λ why. IsListStop why (words_in words.now)) }
+{
+    if words.is_empty() {
+        return Ok(());
+    }
+    let (expr, rest) = read_first(alloc, words)?;
+    exprs.push(Box::into_inner(expr))?;
+    read_onto(alloc, rest, exprs)
+}
+
+/// The expressions that the words are, one after the other; none where there are no words. Of several refusals the one
+/// that comes first is `BadForm` or `UnknownWord`, of which only one can be, and then `BadNumber`.
+pub fn read_words(alloc: Global, words: &[&[u8]]) -> Result<Vec<Expr>, ExprErr>
+    ensures exprs { IfOk result (λ exprs. exprs_of (words_in words.now) ≡ Some (map expr_in exprs.items)) }
+    ensures ok { IfOk result (λ _. list_fault (words_in words.now) ≡ None) }
+    ensures err { IfErr result (λ why. IsFault why (list_fault (words_in words.now))) }
+{
+    let mut exprs = Vec::new(alloc);
+    read_onto(alloc, words, &mut exprs)?;
+    if has_bad_number(words) {
+        return Err(ExprErr::BadNumber);
+    }
+    Ok(exprs)
+}
+
+/// The one expression that the words are. Words that are left behind it are `BadForm`, whatever they are.
+pub fn read_one(alloc: Global, words: &[&[u8]]) -> Result<Expr, ExprErr>
+    ensures expr { IfOk result (λ expr. exprs_of (words_in words.now) ≡ Some (expr_in expr ∷ [])) }
+    ensures ok { IfOk result (λ _. one_fault (words_in words.now) ≡ None) }
+    ensures err { IfErr result (λ why. IsFault why (one_fault (words_in words.now))) }
+{
+    let (expr, rest) = read_first(alloc, words)?;
+    if !rest.is_empty() {
+        return Err(ExprErr::BadForm);
+    }
+    if has_bad_number(words) {
+        return Err(ExprErr::BadNumber);
+    }
+    Ok(Box::into_inner(expr))
+}
+
+/// The expressions that a text is, whose words are parted by one or more spaces.
+pub fn read_exprs(alloc: Global, text: &[u8]) -> Result<Vec<Expr>, ExprErr>
+    ensures exprs { IfOk result (λ exprs. exprs_of (words_of text.now) ≡ Some (map expr_in exprs.items)) }
+    ensures ok { IfOk result (λ _. list_fault (words_of text.now) ≡ None) }
+    ensures err { IfErr result (λ why. IsFault why (list_fault (words_of text.now))) }
+{
+    let words = words(alloc, text)?;
+    read_words(alloc, words.as_slice())
 }
