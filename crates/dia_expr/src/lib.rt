@@ -18,3 +18,6 @@ pub use expr::{Comparison, Expr, Literal, Math, Part};
 pub use kinds::{KindErr, kind_of};
 pub use read::{ExprErr, read_exprs, read_one, read_words};
 pub use spelling::read_expr;
+
+#[cfg(test)]
+mod tests;

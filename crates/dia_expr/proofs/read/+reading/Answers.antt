@@ -41,8 +41,8 @@ read_first-returns-in-Some-Form-clause-read t c =
     ∙ ap (λ b. Some (beginning_in b)) c.in-Some-Form.field-0-is in
     if_ok _ _ c.read_form.result
     (λ first r.
-      let P : List (List ℕ) → Type 0 = λ ws. IsRead ws (expr_in first.0.value) (words_in first.1.now) in
-      subst P (sym e) (read_form c.in-Some.word.now.now (words_in c.in-Some.rest.now) (words_in first.1.now) (form_in c.in-Some-Form.form) (expr_in first.0.value) is r))
+    let P : List (List ℕ) → Type 0 = λ ws. IsRead ws (expr_in first.0.value) (words_in first.1.now) in
+    subst P (sym e) (read_form c.in-Some.word.now.now (words_in c.in-Some.rest.now) (words_in first.1.now) (form_in c.in-Some-Form.form) (expr_in first.0.value) is r))
     c.read_form.ensures.read
 
 pub read_first-returns-in-Some-Form-clause-stop : goal.read_first-returns-in-Some-Form-clause-stop
@@ -53,8 +53,8 @@ read_first-returns-in-Some-Form-clause-stop t c =
     ∙ ap (λ b. Some (beginning_in b)) c.in-Some-Form.field-0-is in
     if_err _ _ c.read_form.result
     (λ why s.
-      let P : List (List ℕ) → Type 0 = λ ws. IsStopAt 1 why ws in
-      subst P (sym e) (stop_form why c.in-Some.word.now.now (words_in c.in-Some.rest.now) (form_in c.in-Some-Form.form) is s))
+    let P : List (List ℕ) → Type 0 = λ ws. IsStopAt 1 why ws in
+    subst P (sym e) (stop_form why c.in-Some.word.now.now (words_in c.in-Some.rest.now) (form_in c.in-Some-Form.form) is s))
     c.read_form.ensures.stop
 
 pub read_form-returns-in_err-x-in-If-clause-stop :
