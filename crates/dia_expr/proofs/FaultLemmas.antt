@@ -1,10 +1,10 @@
 -- Why words are refused, from where their reading stops.
-use Rattle.std.proofs.Common.{◌≡◌, ◌≤◌, ◌<◌, length, ℕ, zero, suc, true, false, List, [], ◌∷◌, ◌++◌, Option, None, Some, refl, sym, ap, ◌∙◌, arith, lit≤, append_assoc, append-nil}
+use Rattle.std.proofs.Common.{◌≡◌, ◌<◌, length, ℕ, true, false, List, [], ◌∷◌, ◌++◌, Option, None, Some, refl, sym, ap, ◌∙◌, arith, lit≤, append_assoc, append-nil}
 use Rattle.std.specs.Option.{option_map}
 use Rattle.std.specs.List.{list_any}
 use Rattle.dia_defs.specs.declared.cause.Cause.TheVariants as cause
 use Rattle.dia_defs.specs.Values.{Expr}
-use Rattle.dia_defs.specs.Expressions.{begins_none, is_bad_number, exprs_of, Ending, read, stopped, inside, ending_of, number_fault, list_fault, fault_at, one_fault}
+use Rattle.dia_defs.specs.Expressions.{begins_none, is_bad_number, exprs_of, read, ending_of, number_fault, list_fault, fault_at, one_fault}
 use Rattle.dia_expr.specs.declared.read.ExprErr as errors
 use Rattle.dia_expr.specs.declared.read.ExprErr.TheVariants.{BadForm, UnknownWord, BadNumber, NoMemory}
 use Rattle.dia_expr.specs.Reads.{IsRead, IsStopAt, IsListStop, IsFault}

@@ -1,5 +1,5 @@
 -- An expression has at most one kind, and it is the one that the forms give.
-use Rattle.std.proofs.Common.{◌≡◌, ℕ, zero, suc, ◌<◌, length, slice_get, arith, [], ◌∷◌, List, Option, None, Some, Bool, true, false, ◌&&◌, ◌||◌, IsSome, refl, sym, ◌∙◌, subst}
+use Rattle.std.proofs.Common.{◌≡◌, length, List, Option, None, Some, Bool, true, false, ◌&&◌, IsSome, refl, sym, ◌∙◌, subst}
 use Rattle.std.proofs.lemmas.Bool.{lt-leb}
 use Rattle.std.proofs.lemmas.Option.{slice_get_within}
 use Rattle.dia_defs.specs.declared.kind.Kind.{Kind}

@@ -1,5 +1,5 @@
 -- Numbers read digit by digit.
-use Rattle.std.specs.Prelude.{ℕ, ◌+◌, ◌*◌, ◌-◌, ◌^◌, nat_lt, Bool, ◌&&◌, List, [], ◌∷◌, Option, None, Some, if◌then◌else◌}
+use Rattle.std.specs.Prelude.{ℕ, ◌+◌, ◌*◌, ◌-◌, ◌^◌, nat_lt, ◌&&◌, List, Option, None, Some, if◌then◌else◌}
 use Rattle.std.specs.List.{list_all}
 use Rattle.dia_defs.specs.Texts.{is_decimal, number_after}
 

@@ -6,7 +6,7 @@ use Rattle.std.specs.List.{list_any}
 use Rattle.dia_defs.specs.declared.cause.Cause as causes
 use Rattle.dia_defs.specs.declared.cause.Cause.TheVariants as cause
 use Rattle.dia_defs.specs.Values.{Expr}
-use Rattle.dia_defs.specs.Expressions.{Beginning, begins_none, onto, exprs_of, and_operands, Ending, stopped, inside, ending_of}
+use Rattle.dia_defs.specs.Expressions.{Beginning, begins_none, onto, exprs_of, and_operands, stopped, inside, ending_of}
 use Rattle.dia_expr.specs.declared.read.ExprErr as errors
 use Rattle.dia_expr.specs.declared.read.ExprErr.TheVariants.{BadForm, UnknownWord, BadNumber, NoMemory}
 

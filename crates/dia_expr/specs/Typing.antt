@@ -1,5 +1,5 @@
 -- Expressions that have a kind, form by form.
-use Rattle.std.specs.Prelude.{◌≡◌, ℕ, List, Some, slice_get}
+use Rattle.std.specs.Prelude.{◌≡◌, List, Some, slice_get}
 use Rattle.dia_defs.specs.declared.kind.Kind.{Kind}
 use Rattle.dia_defs.specs.declared.kind.Kind.TheVariants.{Int, Text}
 use Rattle.dia_defs.specs.Values.{Expr, column, number, literal, math, is_zero, compare, choose, len, num, spelled, part}

@@ -1,4 +1,3 @@
-use Rattle.std.proofs.Common.{rules}
 use Rattle.dia_expr.specs.Exprs.{expr_in}
 use Rattle.dia_expr.proofs.KindLemmas.{same_kind}
 use Rattle.dia_expr.proofs.evaluate.kind_in_both.Goals as goal

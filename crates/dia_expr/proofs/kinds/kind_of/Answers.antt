@@ -1,4 +1,4 @@
-use Rattle.std.proofs.Common.{rules, ◌≡◌, ◌∙◌, ap, sym, true, length}
+use Rattle.std.proofs.Common.{rules, ◌≡◌, sym, true, length}
 use Rattle.dia_defs.specs.Values.{lacks_column}
 use Rattle.dia_item.specs.KindList.{kind_list}
 use Rattle.dia_expr.specs.Exprs.{expr_in}

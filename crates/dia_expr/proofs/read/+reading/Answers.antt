@@ -1,11 +1,11 @@
-use Rattle.std.proofs.Common.{◌≡◌, ◌∷◌, ℕ, List, Option, None, Some, ap, sym, subst, ◌∙◌}
+use Rattle.std.proofs.Common.{◌≡◌, ◌∷◌, ℕ, List, None, Some, ap, sym, subst, ◌∙◌}
 use Rattle.std.proofs.lemmas.List.{length-map}
 use Rattle.std.specs.Option.{option_map}
 use Rattle.dia_defs.specs.Expressions.{whole, beginning_of, and_operands}
-use Rattle.dia_expr.specs.declared.read.ExprErr.TheVariants.{BadForm, UnknownWord}
+use Rattle.dia_expr.specs.declared.read.ExprErr.TheVariants.{UnknownWord}
 use Rattle.dia_expr.specs.Exprs.{expr_in}
 use Rattle.dia_expr.specs.Beginnings.{form_in, beginning_in}
-use Rattle.dia_expr.specs.Reads.{words_in, IsRead, IsPairRead, IsFormRead, IsStopAt}
+use Rattle.dia_expr.specs.Reads.{words_in, IsRead, IsStopAt}
 use Rattle.dia_expr.proofs.ReadLemmas.{stop_empty, stop_unknown, stop_form, stop_behind, read_whole, read_form}
 use Rattle.dia_expr.proofs.Answered.{if_ok, if_err, err_is}
 use Rattle.dia_expr.specs.declared.spelling.Form.{Form}

@@ -1,8 +1,6 @@
-use Rattle.std.proofs.Common.{rules, ◌≡◌, ◌<◌, ◌∷◌, [], None, Some, true, false, length, List, ℕ, sym, ap, ◌∙◌, arith}
+use Rattle.std.proofs.Common.{rules, ◌≡◌, ◌<◌, ◌∷◌, [], Some, length, List, ℕ, sym, ap, ◌∙◌, arith}
 use Rattle.std.proofs.lemmas.List.{length-map}
-use Rattle.std.specs.List.{list_any}
 use Rattle.std.specs.Borrow.{Bor}
-use Rattle.dia_defs.specs.Expressions.{is_bad_number, number_fault, one_fault, exprs_of}
 use Rattle.dia_expr.specs.Exprs.{expr_in}
 use Rattle.dia_expr.specs.Reads.{words_in}
 use Rattle.dia_expr.proofs.FaultLemmas.{one_fault-left, one_fault-numbers, exprs_of-one, number_fault-some, number_fault-none}

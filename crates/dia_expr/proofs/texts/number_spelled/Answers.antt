@@ -1,4 +1,4 @@
-use Rattle.std.proofs.Common.{rules, ◌≡◌, ◌∙◌, sym, ap, drop, suc, List, ℕ, get_or, drop-cons}
+use Rattle.std.proofs.Common.{◌∙◌, sym, ap, drop, suc, List, ℕ, get_or, drop-cons}
 use Rattle.std.proofs.lemmas.List.{drop_all}
 use Rattle.dia_expr.specs.Digits.{with_digits}
 use Rattle.dia_expr.proofs.DigitLemmas.{digits-none, digits-end}

@@ -1,4 +1,4 @@
-use Rattle.std.proofs.Common.{rules, ◌≡◌, ◌∷◌, ◌∙◌, sym, ap, false, List, ℕ, length, drop, add-one, arith}
+use Rattle.std.proofs.Common.{rules, ◌≡◌, ◌∷◌, ◌∙◌, ap, false, List, ℕ, length, drop, add-one, arith}
 use Rattle.std.proofs.lemmas.List.{length-drop}
 use Rattle.dia_defs.specs.Texts.{is_blank}
 use Rattle.dia_expr.proofs.WordLemmas.{AreNoBlanks-more, drop-more}

@@ -1,4 +1,4 @@
-use Rattle.std.proofs.Common.{rules, ◌≡◌, ◌<◌, ◌∙◌, sym, ap, length, arith}
+use Rattle.std.proofs.Common.{rules, ◌<◌, ◌∙◌, sym, length}
 use Rattle.dia_expr.proofs.WordLemmas.{words_none, words_split, run_some}
 use Rattle.dia_expr.proofs.texts.split_word.Goals as goal
 
