@@ -1,8 +1,9 @@
 -- How expressions are spelled: words in prefix form, read from the left.
-use Rattle.std.specs.Prelude.{ℕ, zero, suc, ◌-◌, ◌==◌, nat_le, Bool, true, false, not, ◌&&◌, List, [], ◌∷◌, length, Option, None, Some, is_none, if◌then◌else◌, codes}
+use Rattle.std.specs.Prelude.{ℕ, zero, suc, ◌+◌, ◌-◌, ◌^◌, ◌<◌, ◌≤◌, ◌++◌, ◌==◌, nat_le, Bool, true, false, not, ◌&&◌, List, [], ◌∷◌, length, Option, None, Some, is_none, if◌then◌else◌, codes}
 use Rattle.std.specs.Option.{option_map, option_or}
 use Rattle.std.specs.List.{list_any}
 use Rattle.std.specs.Str.{bytes_eq}
+use Rattle.std.specs.Fmt.{decimal}
 use Rattle.dia_defs.specs.declared.cause.Cause.{Cause}
 use Rattle.dia_defs.specs.declared.cause.Cause.TheVariants.{BadForm, UnknownWord, BadNumber}
 use Rattle.dia_defs.specs.Rows.{longest_text}
@@ -139,3 +140,55 @@ fault_at words (read (w ∷ more)) = Some BadForm
 
 abbrev pub one_fault : List (List ℕ) → Option Cause
 one_fault words = fault_at words (ending_of 1 words)
+
+-- how expressions are written -------------------------------------------------------------------------------------
+
+abbrev pub math_name : Math → List ℕ
+math_name plus = codes "add"
+math_name minus = codes "sub"
+math_name times = codes "mul"
+math_name quotient = codes "div"
+math_name remainder = codes "mod"
+math_name smaller = codes "least"
+math_name larger = codes "most"
+math_name bits_and = codes "and"
+math_name bits_or = codes "or"
+math_name bits_xor = codes "xor"
+
+abbrev pub comparison_name : Comparison → List ℕ
+comparison_name equal = codes "eq"
+comparison_name less = codes "lt"
+comparison_name at_most = codes "le"
+
+abbrev pub part_name : Part → List ℕ
+part_name front = codes "head"
+part_name back = codes "tail"
+part_name nth_word = codes "word"
+
+-- the words of an expression, its numbers in decimal without leading zeros
+abbrev pub expr_words : Expr → List (List ℕ)
+expr_words (column i) = (102 ∷ (48 + i) ∷ []) ∷ []
+expr_words (number n) = decimal n ∷ []
+expr_words (literal t) = (39 ∷ t) ∷ []
+expr_words (math op a b) = math_name op ∷ expr_words a ++ expr_words b
+expr_words (is_zero a) = codes "not" ∷ expr_words a
+expr_words (compare op x y) = comparison_name op ∷ expr_words x ++ expr_words y
+expr_words (choose c x y) = codes "if" ∷ expr_words c ++ (expr_words x ++ expr_words y)
+expr_words (len t) = codes "len" ∷ expr_words t
+expr_words (num t) = codes "num" ∷ expr_words t
+expr_words (spelled a) = codes "text" ∷ expr_words a
+expr_words (part op a t) = part_name op ∷ expr_words a ++ expr_words t
+
+-- what words can write: one digit for a column, numbers of 64 bits, texts that aren't too long
+abbrev pub HasWords : Expr → Type 0
+HasWords (column i) = i ≤ 9
+HasWords (number n) = n < 2 ^ 64
+HasWords (literal t) = length t ≤ longest_text
+HasWords (math op a b) = HasWords a × HasWords b
+HasWords (is_zero a) = HasWords a
+HasWords (compare op x y) = HasWords x × HasWords y
+HasWords (choose c x y) = HasWords c × HasWords x × HasWords y
+HasWords (len t) = HasWords t
+HasWords (num t) = HasWords t
+HasWords (spelled a) = HasWords a
+HasWords (part op a t) = HasWords a × HasWords t

@@ -41,11 +41,11 @@ pub data Expr : Type 0 where
   math : Math → Expr → Expr → Expr
   is_zero : Expr → Expr
   compare : Comparison → Expr → Expr → Expr
-  choose : Expr → Expr → Expr → Expr      -- the second where the first isn't 0, else the third
+  choose : Expr → Expr → Expr → Expr  -- the second where the first isn't 0, else the third
   len : Expr → Expr
   num : Expr → Expr
-  spelled : Expr → Expr                   -- a number in decimal
-  part : Part → Expr → Expr → Expr        -- which, and of which text
+  spelled : Expr → Expr  -- a number in decimal
+  part : Part → Expr → Expr → Expr  -- which, and of which text
 
 -- kinds -------------------------------------------------------------------------------------------------------
 

@@ -38,7 +38,7 @@ where_from : (b : Bool) (k : Option Kind) (l : Kind) → kind_where b k ≡ Some
 where_from true k l is = (refl, is)
 where_from false k l is = absurd cc
 
-both_from : (a b : Bool) → (a && b) ≡ true → (a ≡ true) × (b ≡ true)
+pub both_from : (a b : Bool) → (a && b) ≡ true → (a ≡ true) × (b ≡ true)
 both_from true b is = (refl, is)
 both_from false b is = absurd cc
 

@@ -4,3 +4,5 @@ pub mod KindLemmas
 pub mod Answered
 pub mod ReadLemmas
 pub mod FaultLemmas
+pub mod ValueLemmas
+pub mod SpellingLemmas

@@ -5,3 +5,4 @@ pub mod Typing
 pub mod Pieces
 pub mod Runs
 pub mod Digits
+pub mod Laws

@@ -1,6 +1,6 @@
 //! Values of expressions.
 ghost use Rattle.std.specs.Prelude.{◌≡◌, ◌<◌, ◌≤◌, ◌++◌, ◌∷◌, [], Some, length, IsSome, slice_get, slice_index_or};
-ghost use Rattle.dia_defs.specs.Rows.{int, text, kinds_of, cell_cmp, longest_text};
+ghost use Rattle.dia_defs.specs.Rows.{int, text, kinds_of, cell_cmp, longest_text, Fits};
 ghost use Rattle.dia_defs.specs.Values.{expr_kind, value_of};
 ghost use Rattle.dia_defs.specs.declared.kind.Kind.TheVariants.{Int, Text};
 ghost use Rattle.dia_defs.specs.declared.kind.Kind.{Kind as AnyKind};
@@ -131,7 +131,8 @@ pub fn eval_int(expr: &Expr, row: RowRef<'_>) -> u64
 pub fn eval(expr: &Expr, row: RowRef<'_>, into: &mut RowBuf)
     requires kind { IsSome (expr_kind (kinds_of (row_in_ref row)) (expr_in expr.now)) }
     requires room { length into.old < 6 }
-    ensures { into.new ≡ into.old ++ value_of (expr_in expr.now) (row_in_ref row.entry) ∷ [] }
+    ensures value { into.new ≡ into.old ++ value_of (expr_in expr.now) (row_in_ref row.entry) ∷ [] }
+    ensures fits { Fits (value_of (expr_in expr.now) (row_in_ref row.entry)) }
 {
     match kind_in(expr, &row) {
         Kind::Int => into.push_int(int_of(expr, &row)),

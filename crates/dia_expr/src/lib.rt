@@ -7,6 +7,7 @@
 mod evaluate;
 mod expr;
 mod kinds;
+mod laws;
 mod math;
 mod piece;
 mod read;
@@ -16,6 +17,7 @@ mod texts;
 pub use evaluate::{eval, eval_int};
 pub use expr::{Comparison, Expr, Literal, Math, Part};
 pub use kinds::{KindErr, kind_of};
+pub use laws::{an_expression_is_read_again, expressions_are_read_again, values_have_their_kinds};
 pub use read::{ExprErr, read_exprs, read_one, read_words};
 pub use spelling::read_expr;
 
