@@ -25,10 +25,10 @@ IsLine inputs lists (local_form of op) rows = (a : List Row) × (lists of ≡ So
 
 -- why a line or an action is not done
 pub data Block : Type 0 where
-  missing : Block  -- there is no such input
-  line_too_long : ℕ → Block  -- this line of the input, from 1, is longer than a text may be
-  input_too_long : Block  -- the input is longer than an input may be
-  too_many_rows : Block  -- more rows arrive than may
+  missing : Block                -- there is no such input
+  line_too_long : ℕ → Block      -- this line of the input, from 1, is longer than a text may be
+  input_too_long : Block         -- the input is longer than an input may be
+  too_many_rows : Block          -- more rows arrive than may
 
 abbrev pub longest_input : ℕ
 longest_input = 2 ^ 32

@@ -236,10 +236,10 @@ onto_script n statement (Err e) = Err e
 unfoldable pub reading_from : Known → ℕ → List (List ℕ) → Result Script (ℕ × Cause)
 reading_from known n [] = Ok []
 reading_from known n (bytes ∷ more) = elim (line_reading known bytes) [
-  | skipped ↦ reading_from known (n + 1) more
+    skipped ↦ reading_from known (n + 1) more
   | refused cause ↦ Err (n, cause)
   | stated statement kinds ↦ onto_script n statement (reading_from (known_after known n statement kinds) (n + 1) more)
-]
+  ]
 
 abbrev pub script_limit : ℕ
 script_limit = 131328

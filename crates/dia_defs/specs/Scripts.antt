@@ -8,14 +8,14 @@ pub data LocalOp : Type 0 where
 
 -- what a line is
 pub data Form : Type 0 where
-  lines_form : List ℕ → Form  -- an input's lines, by the input's name
-  local_form : ℕ → LocalOp → Form  -- the rows that a local line makes of an earlier line's
+  lines_form : List ℕ → Form           -- an input's lines, by the input's name
+  local_form : ℕ → LocalOp → Form      -- the rows that a local line makes of an earlier line's
 
 pub data Action : Type 0 where
   print_action : ℕ → Action
 
 pub data Statement : Type 0 where
-  line : List ℕ → Form → Statement  -- a name, and the line that it stands for
+  line : List ℕ → Form → Statement     -- a name, and the line that it stands for
   act : Action → Statement
 
 pub record Numbered : Type 0 where

@@ -33,11 +33,11 @@ lines_to_do (s ∷ later) needed done =
 unfoldable pub work_from : Script → List ℕ → Script → List Item
 work_from script done [] = []
 work_from script done (s ∷ later) = elim s.statement [
-  | line name form ↦ work_from script done later
+    line name form ↦ work_from script done later
   | act action ↦
       let new = lines_to_do script (closure script (action_operand action ∷ [])) done in
       map do_line new ++ do_action s.number ∷ work_from script (done ++ new) later
-]
+  ]
 
 abbrev pub work_of : Script → List Item
 work_of script = work_from script [] script

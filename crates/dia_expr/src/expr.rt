@@ -102,7 +102,7 @@ pub enum Expr {
     Num(Box<Expr>),
     /// A number in decimal.
     Text(Box<Expr>),
-    /// A part of a text: which, so many or the how manieth, and of which text.
+    /// A part of a text: which part, the number of bytes or of the word, and the text.
     Part(Part, Box<Expr>, Box<Expr>),
 }
 

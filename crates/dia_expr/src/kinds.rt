@@ -93,7 +93,8 @@ fn kind_among(expr: &Expr, kinds: &[Kind]) -> Option<Kind>
     }
 }
 
-/// The kind of an expression on rows of these kinds, or why it has none.
+/// The kind of an expression on rows of these kinds. `BadColumn` comes exactly where a column is named that isn't
+/// there, and else `BadKind` exactly where there is no kind.
 pub fn kind_of(expr: &Expr, kinds: &Kinds) -> Result<Kind, KindErr>
     ensures kind { result_ok result ≡ expr_kind (kind_list kinds.now) (expr_in expr.now) }
     ensures column { IsErrOf result KindErr.BadColumn ↔ IsTrue (lacks_column (length (kind_list kinds.now)) (expr_in expr.now)) }

@@ -173,7 +173,8 @@ pub fn read_one(alloc: Global, words: &[&[u8]]) -> Result<Expr, ExprErr>
     Ok(Box::into_inner(expr))
 }
 
-/// The expressions that a text is, whose words are parted by one or more spaces.
+/// The expressions that a text is, as `read_words` reads its words, which are parted by one or more spaces. A literal
+/// of more than 65,536 bytes begins no expression, since it would be no text.
 pub fn read_exprs(alloc: Global, text: &[u8]) -> Result<Vec<Expr>, ExprErr>
     ensures exprs { IfOk result (λ exprs. exprs_of (words_of text.now) ≡ Some (map expr_in exprs.items)) }
     ensures ok { IfOk result (λ _. list_fault (words_of text.now) ≡ None) }
