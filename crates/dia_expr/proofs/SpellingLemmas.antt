@@ -1,5 +1,5 @@
 -- The words of an expression are read as that expression.
-use Rattle.std.proofs.Common.{◌≡◌, ◌≤◌, ◌<◌, ◌^◌, ◌+◌, ◌-◌, ◌&&◌, nat_le, nat_lt, ◌==◌, Bool, true, false, length, ℕ, zero, suc, List, [], ◌∷◌, ◌++◌, Option, None, Some, if◌then◌else◌, refl, sym, ap, ◌∙◌, arith, rules, append_assoc, append-nil, unwrap_or, codes, not, lit<}
+use Rattle.std.proofs.Common.{◌≡◌, ◌≤◌, ◌<◌, ◌^◌, ◌+◌, ◌-◌, ◌&&◌, nat_le, nat_lt, ◌==◌, Bool, true, false, length, ℕ, List, [], ◌∷◌, ◌++◌, None, Some, if◌then◌else◌, refl, ap, ◌∙◌, arith, rules, append_assoc, append-nil, unwrap_or, codes, not, lit<}
 use Rattle.std.specs.List.{list_any, list_all, flat_map, AllByRecursion}
 use Rattle.std.specs.Option.{option_map, option_or}
 use Rattle.std.specs.Fmt.{decimal}
@@ -7,9 +7,9 @@ use Rattle.std.proofs.lemmas.Bool.{le-leb, lt-ltb, leb-true, ne_eqb}
 use Rattle.std.proofs.lemmas.Str.Parse.{IsNumeralModel, numerals_by_fold}
 use Rattle.std.proofs.lemmas.Fmt.{decimal_nonempty, length-decimal-le, digits_decimal, digits_value-decimal}
 use Rattle.dia_defs.specs.Rows.{longest_text}
-use Rattle.dia_defs.specs.Texts.{is_decimal, number_after, number_of_digits, is_number, number_spelled, number_or_0}
+use Rattle.dia_defs.specs.Texts.{is_decimal, number_after, number_of_digits, is_number, number_or_0}
 use Rattle.dia_defs.specs.Values.{Math, plus, minus, times, quotient, remainder, smaller, larger, bits_and, bits_or, bits_xor, Comparison, equal, less, at_most, Part, front, back, nth_word, Expr, column, number, literal, math, is_zero, compare, choose, len, num, spelled, part}
-use Rattle.dia_defs.specs.Expressions.{Beginning, whole, with_one, with_two, with_three, form_word, leaf_word, literal_rest, column_word, beginning_of, begins_none, is_bad_number, exprs_of, ending_of, list_fault, one_fault, number_fault, math_name, comparison_name, part_name, expr_words, HasWords}
+use Rattle.dia_defs.specs.Expressions.{whole, with_one, with_two, with_three, form_word, leaf_word, literal_rest, column_word, beginning_of, begins_none, is_bad_number, exprs_of, list_fault, one_fault, math_name, comparison_name, part_name, expr_words, HasWords}
 use Rattle.dia_expr.specs.Reads.{IsRead}
 use Rattle.dia_expr.proofs.KindLemmas.{both_from}
 use Rattle.dia_expr.proofs.ReadLemmas.{read_whole, read_one, read_two, read_three, read_pair, read_form}

@@ -1,6 +1,8 @@
 -- The expression of the definitions that an `Expr` stands for.
+use Rattle.std.specs.Prelude.{ℕ, List}
 use Rattle.dia_expr.specs.declared.expr.Expr as code
 use Rattle.dia_expr.specs.declared.expr.Expr.{Column, Number, Literal, Math', Not', Compare', If', Len', Num', Text', Part'}
+use Rattle.dia_expr.specs.declared.expr.Literal as literals
 use Rattle.dia_expr.specs.declared.expr.Math as maths
 use Rattle.dia_expr.specs.declared.expr.Math.TheVariants.{Add, Sub, Mul, Div, Mod, Least, Most, And, Or, Xor}
 use Rattle.dia_expr.specs.declared.expr.Comparison as comparisons
@@ -31,10 +33,13 @@ part_in Head = front
 part_in Tail = back
 part_in Word = nth_word
 
+abbrev pub literal_bytes : literals.Literal → List ℕ
+literal_bytes t = t.bytes.items
+
 abbrev pub expr_in : code.Expr → Expr
 expr_in (Column i) = column i
 expr_in (Number n) = number n
-expr_in (Literal t) = literal t.bytes.items
+expr_in (Literal t) = literal (literal_bytes t)
 expr_in (Math' op _ a _ b) = math (math_in op) (expr_in a) (expr_in b)
 expr_in (Not' _ a) = is_zero (expr_in a)
 expr_in (Compare' op _ x _ y) = compare (comparison_in op) (expr_in x) (expr_in y)

@@ -60,10 +60,12 @@ pub struct Literal {
 }
 
 impl Literal {
+    ghost use Rattle.dia_expr.specs.Exprs.{literal_bytes};
+
     /// A literal with these bytes.
     pub(crate) fn of(alloc: Global, bytes: &[u8]) -> Result<Literal, NoMemory>
         requires { length bytes.now ≤ longest_text }
-        ensures { IfOk result (λ literal. literal.bytes.items ≡ bytes.now) }
+        ensures { IfOk result (λ literal. literal_bytes literal ≡ bytes.now) }
     {
         Ok(Literal {
             bytes: Vec::from_slice(alloc, bytes)?,
@@ -72,7 +74,7 @@ impl Literal {
 
     /// The bytes.
     pub fn bytes(&self) -> &[u8]
-        ensures bytes { result.now ≡ self.now.bytes.items }
+        ensures bytes { result.now ≡ literal_bytes self.now }
         ensures short { length result.now ≤ longest_text }
     {
         self.bytes.as_slice()
