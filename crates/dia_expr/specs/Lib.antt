@@ -1,1 +1,8 @@
 pub mod Exprs
+pub mod Beginnings
+pub mod Reads
+pub mod Typing
+pub mod Pieces
+pub mod Runs
+pub mod Digits
+pub mod Laws

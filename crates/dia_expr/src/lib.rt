@@ -1,13 +1,28 @@
-//! Expressions: how one is spelled, its kind, and its value on a row.
+//! Expressions: how they are spelled, their kinds, and their values on a row.
 //!
-//! The layers above rely on `eval`: it appends the value that `Values` of the definitions gives, and takes no memory.
-//! Contracts see an `Expr` as the expression of the definitions, `expr_in`.
+//! Contracts see an `Expr` as the expression of the definitions, `expr_in` of `specs/Exprs.antt`. The layers above rely
+//! on three facts: `read_words` and its kin answer the expressions that the words are, or the first refusal from the
+//! left, as `Expressions` of the definitions says; `kind_of` answers the kind, or why there is none; `eval` and
+//! `eval_int` give the value, as `Values` says, and take no memory. `specs/Laws.antt` has what follows for every
+//! expression. Reading, evaluation and drop recurse as deep as an expression is nested.
 #![tactic(auto)]
 
 mod evaluate;
 mod expr;
+mod kinds;
+mod laws;
+mod math;
+mod piece;
+mod read;
 mod spelling;
+mod texts;
 
-pub use evaluate::{eval, kind_of};
-pub use expr::Expr;
+pub use evaluate::{eval, eval_int};
+pub use expr::{Comparison, Expr, Literal, Math, Part};
+pub use kinds::{KindErr, kind_of};
+pub use laws::{an_expression_is_read_again, expressions_are_read_again, values_have_their_kinds};
+pub use read::{ExprErr, read_exprs, read_one, read_words};
 pub use spelling::read_expr;
+
+#[cfg(test)]
+mod tests;

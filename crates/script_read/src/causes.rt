@@ -124,7 +124,7 @@ fn is_bad_column(operand: &Earlier, word: &[u8]) -> bool
 {
     match read_expr(word) {
         None => false,
-        Some(expr) => kind_of(&expr, &operand.kinds).is_none(),
+        Some(expr) => kind_of(&expr, &operand.kinds).ok().is_none(),
     }
 }
 

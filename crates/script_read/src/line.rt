@@ -64,7 +64,7 @@ fn kinds_of_exprs(alloc: Global, exprs: &[Expr], of: &Kinds) -> Result<Vec<Kind>
 {
     let mut kinds = Vec::new(alloc);
     for expr in exprs {
-        if let Some(kind) = kind_of(expr, of) {
+        if let Some(kind) = kind_of(expr, of).ok() {
             kinds.push(kind)?;
         }
     }

@@ -17,6 +17,11 @@ impl Model for Script {
 
     ghost Value = { defs.Script };
 
+    ghost use Rattle.std.specs.Coded.{codes};
+    ghost use Rattle.dia_defs.specs.Coding.{expr_code};
+
+    ghost coded = { Prim.hlevel (codes, expr_code) };
+
     ghost use Rattle.script_read.specs.Statements.{numbered_in};
 
     ghost view = { λ s. map numbered_in s.statements.items };

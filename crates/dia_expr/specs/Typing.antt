@@ -1,0 +1,19 @@
+-- Expressions that have a kind, form by form.
+use Rattle.std.specs.Prelude.{◌≡◌, List, Some, slice_get}
+use Rattle.dia_defs.specs.declared.kind.Kind.{Kind}
+use Rattle.dia_defs.specs.declared.kind.Kind.TheVariants.{Int, Text}
+use Rattle.dia_defs.specs.Values.{Expr, column, number, literal, math, is_zero, compare, choose, len, num, spelled, part}
+
+-- on rows of these kinds the expression has this kind
+abbrev pub HasKind : List Kind → Expr → Kind → Type 0
+HasKind kinds (column i) kind = slice_get kinds i ≡ Some kind
+HasKind kinds (number n) kind = kind ≡ Int
+HasKind kinds (literal t) kind = kind ≡ Text
+HasKind kinds (math op a b) kind = (kind ≡ Int) × HasKind kinds a Int × HasKind kinds b Int
+HasKind kinds (is_zero a) kind = (kind ≡ Int) × HasKind kinds a Int
+HasKind kinds (compare op x y) kind = (kind ≡ Int) × ((alike : Kind) × HasKind kinds x alike × HasKind kinds y alike)
+HasKind kinds (choose c x y) kind = HasKind kinds c Int × HasKind kinds x kind × HasKind kinds y kind
+HasKind kinds (len t) kind = (kind ≡ Int) × HasKind kinds t Text
+HasKind kinds (num t) kind = (kind ≡ Int) × HasKind kinds t Text
+HasKind kinds (spelled a) kind = (kind ≡ Text) × HasKind kinds a Int
+HasKind kinds (part op a t) kind = (kind ≡ Text) × HasKind kinds a Int × HasKind kinds t Text
