@@ -1,6 +1,6 @@
 -- What a script's lines mean: one list of rows for each, on the lists of the lines that it names.
-use Rattle.std.specs.Prelude.{◌≡◌, ℕ, ◌+◌, ◌^◌, nat_lt, List, [], ◌∷◌, length, take, map, Option, None, Some, if◌then◌else◌, position}
-use Rattle.std.specs.List.{flat_map}
+use Rattle.std.specs.Prelude.{◌≡◌, ℕ, ◌^◌, nat_lt, Bool, List, [], ◌∷◌, length, take, map, Option, None, Some, if◌then◌else◌}
+use Rattle.std.specs.List.{flat_map, position_from}
 use Rattle.dia_defs.specs.Rows.{Row, longest_text}
 use Rattle.dia_defs.specs.Pieces.{lines_of, line_rows}
 use Rattle.dia_defs.specs.Values.{Expr, value_of}
@@ -36,12 +36,15 @@ longest_input = 2 ^ 32
 abbrev pub most_rows : ℕ
 most_rows = 2 ^ 40
 
--- the first line longer than a text may be, from 0, within what an input may have
+abbrev pub is_long : List ℕ → Bool
+is_long line = nat_lt longest_text (length line)
+
+-- the first line longer than a text may be, from 1, within what an input may have
 abbrev pub long_line : List ℕ → Option ℕ
-long_line bytes = position (λ line. nat_lt longest_text (length line)) (lines_of (take longest_input bytes))
+long_line bytes = position_from is_long 1 (lines_of (take longest_input bytes))
 
 abbrev pub block_of_long_line : Option ℕ → List ℕ → Option Block
-block_of_long_line (Some i) bytes = Some (line_too_long (i + 1))
+block_of_long_line (Some n) bytes = Some (line_too_long n)
 block_of_long_line None bytes = if nat_lt longest_input (length bytes) then Some input_too_long else None
 
 abbrev pub block_of_input : Option (List ℕ) → Option Block

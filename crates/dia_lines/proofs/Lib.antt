@@ -1,3 +1,4 @@
 pub mod TextLemmas
 pub mod BlockLemmas
 pub mod TakeLemmas
+pub mod InputLemmas

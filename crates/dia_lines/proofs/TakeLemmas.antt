@@ -11,7 +11,7 @@ use Rattle.dia_lines.specs.Taking.{is_text, AreTaken, HasTaken, IsLong, IsTakeRe
 use Rattle.dia_lines.specs.declared.taker.Taker.{Taker}
 use Rattle.dia_lines.specs.declared.taker.TakeErr as errors
 
-list_all-push : (lines : List (List ℕ)) (line : List ℕ) → list_all is_text lines ≡ true → is_text line ≡ true → list_all is_text (lines ++ line ∷ []) ≡ true
+pub list_all-push : (lines : List (List ℕ)) (line : List ℕ) → list_all is_text lines ≡ true → is_text line ≡ true → list_all is_text (lines ++ line ∷ []) ≡ true
 list_all-push [] line all is = and_from (is_text line) true is refl
 list_all-push (l ∷ lines) line all is =
     let parts = and_parts (is_text l) (list_all is_text lines) all in

@@ -2,3 +2,4 @@ pub mod Texts
 pub mod Blocks
 pub mod Places
 pub mod Taking
+pub mod Inputs

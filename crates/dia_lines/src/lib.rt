@@ -5,10 +5,12 @@
 #![tactic(auto)]
 
 mod block;
+mod input;
 mod place;
 mod taker;
 mod iter;
 mod line_rows;
 
+pub use input::{InputErr, read_input};
 pub use iter::Iter;
 pub use line_rows::LineRows;
