@@ -1,8 +1,12 @@
--- The slots that a disk in memory keeps, in order of their numbers.
-use Rattle.std.specs.Prelude.{◌≡◌, ◌≢◌, ℕ, ◌<◌, ◌≤◌, ◌==◌, List, [], ◌∷◌, map, length, slice_index, if◌then◌else◌, Result, MatchResult}
+-- Slots: those that a file has room for, and those that a disk in memory keeps, in order of their numbers.
+use Rattle.std.specs.Prelude.{◌≡◌, ◌≢◌, ◌⊎◌, ℕ, ◌^◌, ◌<◌, ◌≤◌, ◌==◌, List, [], ◌∷◌, map, length, slice_index, if◌then◌else◌, Result, MatchResult}
 use Rattle.std.specs.List.Sorted.{IsStrictlyIncreasing}
 use Rattle.dia_edge.specs.Disks.{Slots}
 use Rattle.dia_edge.specs.declared.mem_disk.Held.{Held}
+
+-- in a file a slot has room for 2^20 bytes, and no byte stands at 2^63 or later
+abbrev pub IsBeyond : ℕ → ℕ → Type 0
+IsBeyond slot count = (2 ^ 43 ≤ slot) ⊎ (2 ^ 20 < count)
 
 -- a slot's number and its bytes
 abbrev pub pair_of : Held → ℕ × List ℕ

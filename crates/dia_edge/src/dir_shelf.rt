@@ -1,5 +1,5 @@
 //! The files below the current folder as a shelf.
-ghost use Rattle.std.specs.Prelude.{◌≡◌, ◌≤◌, Option, None, Ok, true, false, OnErr, IfOk, length};
+ghost use Rattle.std.specs.Prelude.{◌≡◌, ◌≤◌, None, Ok, true, false, OnErr, IfOk, length};
 ghost use Rattle.std.specs.Path.{path_components};
 ghost use Rattle.dia_edge.specs.Counts.{HasRisen};
 ghost use Rattle.dia_edge.specs.Files.{IsOutside, has_parent};
@@ -48,8 +48,8 @@ impl<R: Files> Shelf for DirShelf<R> {
     ghost faults = { λ shelf. shelf.faults.number };
 
     fn open(&mut self, name: &str) -> Result<bool, Failed>
-        ensures rose { OnErr result (HasRisen self.old.faults.number self.new.faults.number) }
-        ensures counts { self.old.faults.number ≤ self.new.faults.number }
+        ensures rose { OnErr result (HasRisen (⟦<DirShelf<R> as Shelf>⟧.faults self.old) (⟦<DirShelf<R> as Shelf>⟧.faults self.new)) }
+        ensures counts { ⟦<DirShelf<R> as Shelf>⟧.faults self.old ≤ ⟦<DirShelf<R> as Shelf>⟧.faults self.new }
         ensures outside { IsOutside name.now → result ≡ Ok false }
     {
         self.opened = None;

@@ -1,5 +1,7 @@
 //! A file as a disk.
-ghost use Rattle.std.specs.Prelude.{◌≡◌, ◌^◌, ◌<◌, ◌≤◌, Option, None, length};
+ghost use Rattle.std.specs.Prelude.{◌≡◌, ◌≤◌, None, IsErr, OnOk, OnErr, length};
+ghost use Rattle.dia_edge.specs.Counts.{HasRisen, raised};
+ghost use Rattle.dia_edge.specs.Slots.{IsBeyond};
 
 use crate::count::Count;
 use crate::disk::Disk;
@@ -62,7 +64,13 @@ where
 
     ghost writes = { λ disk. disk.writes.number };
 
-    fn write(&mut self, slot: u64, bytes: &[u8]) -> Result<(), Failed> {
+    fn write(&mut self, slot: u64, bytes: &[u8]) -> Result<(), Failed>
+        ensures written { OnOk result (⟦<FileDisk<R> as Disk>⟧.writes self.new ≡ raised (⟦<FileDisk<R> as Disk>⟧.writes self.old)) }
+        ensures unwritten { OnErr result (⟦<FileDisk<R> as Disk>⟧.writes self.new ≡ ⟦<FileDisk<R> as Disk>⟧.writes self.old) }
+        ensures rose { OnErr result (HasRisen (⟦<FileDisk<R> as Disk>⟧.faults self.old) (⟦<FileDisk<R> as Disk>⟧.faults self.new)) }
+        ensures counts { ⟦<FileDisk<R> as Disk>⟧.faults self.old ≤ ⟦<FileDisk<R> as Disk>⟧.faults self.new }
+        ensures beyond { IsBeyond slot (length bytes.now) → IsErr result }
+    {
         match write_slot(&self.rt, self.path.text(), &mut self.file, slot, bytes) {
             Ok(()) => {
                 self.writes.raise();
@@ -72,7 +80,12 @@ where
         }
     }
 
-    fn read(&mut self, slot: u64, into: &mut [u8]) -> Result<(), Failed> {
+    fn read(&mut self, slot: u64, into: &mut [u8]) -> Result<(), Failed>
+        ensures writes { ⟦<FileDisk<R> as Disk>⟧.writes self.new ≡ ⟦<FileDisk<R> as Disk>⟧.writes self.old }
+        ensures rose { OnErr result (HasRisen (⟦<FileDisk<R> as Disk>⟧.faults self.old) (⟦<FileDisk<R> as Disk>⟧.faults self.new)) }
+        ensures counts { ⟦<FileDisk<R> as Disk>⟧.faults self.old ≤ ⟦<FileDisk<R> as Disk>⟧.faults self.new }
+        ensures beyond { IsBeyond slot (length into.old) → IsErr result }
+    {
         match read_slot(&self.file, slot, into) {
             Ok(()) => Ok(()),
             Err(_) => Err(self.faults.fault()),
@@ -97,7 +110,9 @@ fn make<R: Files>(rt: &R, path: &str) -> io::Result<R::File> {
 }
 
 /// Where the slot stands in the file, if so many bytes have room there.
-fn offset_of(slot: u64, count: usize) -> io::Result<u64> {
+fn offset_of(slot: u64, count: usize) -> io::Result<u64>
+    ensures { IsBeyond slot count → IsErr result }
+{
     if slot >= SLOT_END || count as u64 > SLOT_BYTES {
         return Err(io::Error::from(ErrorKind::InvalidInput));
     }
@@ -114,6 +129,7 @@ fn write_slot<R: Files>(
 ) -> io::Result<()>
 where
     R::File: FileExt,
+    ensures { IsBeyond slot (length bytes.now) → IsErr result }
 {
     let offset = offset_of(slot, bytes.len())?;
     if let Some(file) = opened {
@@ -125,7 +141,10 @@ where
     written
 }
 
-fn read_slot<F: FileExt>(file: &Option<F>, slot: u64, into: &mut [u8]) -> io::Result<()> {
+/// Reads the front of the slot.
+fn read_slot<F: FileExt>(file: &Option<F>, slot: u64, into: &mut [u8]) -> io::Result<()>
+    ensures { IsBeyond slot (length into.old) → IsErr result }
+{
     let offset = offset_of(slot, into.len())?;
     match file {
         Some(file) => file.read_exact_at(into, offset),

@@ -1,8 +1,11 @@
-//! The outside of the engine: where inputs come from, where texts go, and where blocks are spilled.
+//! The outside of the engine: where inputs come from, where texts go, where blocks are spilled, and where workers
+//! may be held.
 //!
 //! The layers above rely on the clauses of the four traits alone. An object may tell what it holds or takes, as
-//! those in memory do, or tell nothing, as real files do; clauses on contents hold where it tells. The words that
-//! the clauses use stand in `specs/`: Counts, Shelves, Sinks, Disks.
+//! those in memory do, or tell nothing, as real files and streams do; clauses on contents hold where it tells. The
+//! objects in memory are what tests hand in, with calls that are to fail; the adapters are thin, since what lies
+//! behind them can't be proved. The words that the clauses use stand in `specs/`: Counts, Shelves, Sinks, Disks,
+//! and for the objects Files, Slots, Plans, Memory.
 #![tactic(auto)]
 
 mod count;

@@ -1,7 +1,7 @@
 //! A disk in memory.
-ghost use Rattle.std.specs.Prelude.{◌≡◌, ◌≢◌, ℕ, ◌≤◌, List, Option, Some, [], false, true, not, map, length, is_ok, is_some, OnOk, OnErr, Result, Ok, Err};
+ghost use Rattle.std.specs.Prelude.{◌≡◌, ◌≤◌, Some, [], false, not, length, is_ok, OnOk, OnErr, Ok, Err};
 ghost use Rattle.dia_edge.specs.Counts.{HasRisen, raised};
-ghost use Rattle.dia_edge.specs.Disks.{Slots, CanFill, IsFilled, IsWritten, OthersStay};
+ghost use Rattle.dia_edge.specs.Disks.{CanFill, IsFilled, IsWritten, OthersStay};
 ghost use Rattle.dia_edge.specs.Plans.{fresh, is_next_planned, called};
 ghost use Rattle.dia_edge.specs.Slots.{pairs_of, slots_of, numbers, IsAscending, IsPlace, IsPut};
 
@@ -44,7 +44,10 @@ impl MemDisk {
     /// A disk of which no slot was written. The calls that are numbered in `fail` fail, from 1; reads and writes
     /// share one numbering. A write for which there is no memory fails too.
     pub fn new(alloc: Global, fail: Vec<u64>) -> MemDisk
-        ensures { result ≡ record { held = []; writes = 0; plan = fresh fail.items } }
+        ensures whole { result ≡ record { held = []; writes = 0; plan = fresh fail.items } }
+        ensures slots { ⟦<MemDisk as Disk>⟧.slots result ≡ Some (slots_of []) }
+        ensures writes { ⟦<MemDisk as Disk>⟧.writes result ≡ 0 }
+        ensures faults { ⟦<MemDisk as Disk>⟧.faults result ≡ 0 }
     {
         MemDisk {
             alloc,
@@ -57,7 +60,8 @@ impl MemDisk {
     /// The slots that were written with what each of them holds now, in ascending order of slot.
     pub fn held(&self) -> &[Held]
         ensures held { pairs_of result.now ≡ self.now.held }
-        ensures ascending { IsAscending self.now.held }
+        ensures ascending { IsAscending (pairs_of result.now) }
+        ensures slots { ⟦<MemDisk as Disk>⟧.slots self.now ≡ Some (slots_of (pairs_of result.now)) }
     {
         &self.held
     }

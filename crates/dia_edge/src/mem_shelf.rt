@@ -1,5 +1,5 @@
 //! A shelf in memory.
-ghost use Rattle.std.specs.Prelude.{◌≡◌, ℕ, ◌+◌, ◌^◌, ◌<◌, ◌≤◌, Bool, List, Option, Some, None, [], true, false, not, min, length, take, drop, is_ok, is_some, MatchOption, MatchBool, OnOk, OnErr, IfOk};
+ghost use Rattle.std.specs.Prelude.{◌≡◌, ◌+◌, ◌^◌, ◌<◌, ◌≤◌, Some, None, [], true, not, min, length, take, drop, is_ok, MatchOption, MatchBool, OnErr, IfOk};
 ghost use Rattle.dia_edge.specs.Counts.{HasRisen};
 ghost use Rattle.dia_edge.specs.Files.{files_of, held_under, bytes_at};
 ghost use Rattle.dia_edge.specs.Plans.{fresh, is_next_planned, called};
@@ -9,7 +9,6 @@ use crate::name::Name;
 use crate::plan::FaultPlan;
 use crate::refusals::Failed;
 use crate::shelf::Shelf;
-use std::alloc::Global;
 use std::marker::Model;
 
 /// A shelf of files that it was given, and tells.
@@ -48,7 +47,11 @@ impl MemShelf {
     /// share one numbering.
     pub fn new(files: Vec<(Name, Vec<u8>)>, step: usize, fail: Vec<u64>) -> MemShelf
         requires { 0 < step }
-        ensures { result ≡ record { files = files_of files.items; left = []; step = step; plan = fresh fail.items } }
+        ensures whole { result ≡ record { files = files_of files.items; left = []; step = step; plan = fresh fail.items } }
+        ensures holds { ⟦<MemShelf as Shelf>⟧.holds result ≡ Some (held_under (files_of files.items)) }
+        ensures left { ⟦<MemShelf as Shelf>⟧.left result ≡ Some [] }
+        ensures fixed { ⟦<MemShelf as Shelf>⟧.is_fixed result ≡ true }
+        ensures faults { ⟦<MemShelf as Shelf>⟧.faults result ≡ 0 }
     {
         let place = files.len();
         MemShelf {

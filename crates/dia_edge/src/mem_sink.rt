@@ -1,5 +1,5 @@
 //! A sink in memory.
-ghost use Rattle.std.specs.Prelude.{◌≡◌, ◌≤◌, List, Option, Some, [], false, is_ok, is_some, OnOk, OnErr};
+ghost use Rattle.std.specs.Prelude.{◌≡◌, ◌≤◌, Some, [], false, is_ok, OnOk, OnErr};
 ghost use Rattle.dia_edge.specs.Counts.{HasRisen};
 ghost use Rattle.dia_edge.specs.Memory.{collected};
 ghost use Rattle.dia_edge.specs.Plans.{fresh, is_next_planned};
@@ -30,7 +30,9 @@ impl MemSink {
     /// An empty sink. The calls of `put` that are numbered in `fail`, from 1, take nothing and fail; so does one
     /// for which there is no memory.
     pub fn new(alloc: Global, fail: Vec<u64>) -> MemSink
-        ensures { result ≡ record { taken = []; plan = fresh fail.items } }
+        ensures whole { result ≡ record { taken = []; plan = fresh fail.items } }
+        ensures taken { ⟦<MemSink as Sink>⟧.taken result ≡ Some [] }
+        ensures faults { ⟦<MemSink as Sink>⟧.faults result ≡ 0 }
     {
         MemSink {
             bytes: Vec::new(alloc),
@@ -40,7 +42,8 @@ impl MemSink {
 
     /// The bytes taken so far.
     pub fn bytes(&self) -> &[u8]
-        ensures { result.now ≡ self.now.taken }
+        ensures bytes { result.now ≡ self.now.taken }
+        ensures taken { ⟦<MemSink as Sink>⟧.taken self.now ≡ Some result.now }
     {
         &self.bytes
     }

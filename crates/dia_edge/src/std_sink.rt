@@ -1,5 +1,5 @@
 //! The standard streams as sinks.
-ghost use Rattle.std.specs.Prelude.{◌≡◌, Option, None};
+ghost use Rattle.std.specs.Prelude.{◌≡◌, None};
 
 use crate::count::Count;
 use crate::refusals::Failed;

@@ -41,18 +41,14 @@ fn a_shelf_in_memory_is_read_in_steps(rt: HostRuntime) -> Result<(), Fail> {
     let mut files = Vec::new(alloc);
     files.push((Name::of(alloc, "a")?, b"12345".to_vec(alloc)?))?;
     files.push((Name::of(alloc, "a")?, b"6".to_vec(alloc)?))?;
-    let mut shelf = MemShelf::new(files, 3, [4].to_vec(alloc)?);
+    let mut shelf = MemShelf::new(files, 3, [3].to_vec(alloc)?);
     let mut into = [0u8; 8];
-    assert_eq!(rt; shelf.read(&mut into), Ok(0));
     assert_eq!(rt; shelf.open("a"), Ok(true));
-    assert_eq!(rt; shelf.read(&mut into), Ok(3));
-    assert_eq!(rt; &into[..3], b"123".as_slice());
-    assert_eq!(rt; shelf.read(&mut into), Err(Failed));
-    assert_eq!(rt; shelf.read(&mut into), Ok(2));
-    assert_eq!(rt; &into[..2], b"45".as_slice());
-    assert_eq!(rt; shelf.read(&mut into), Ok(0));
+    for answer in [Ok(3), Err(Failed), Ok(2), Ok(0)] {
+        assert_eq!(rt; shelf.read(&mut into), answer);
+    }
+    assert_eq!(rt; into, *b"453\0\0\0\0\0");
     assert_eq!(rt; shelf.open("b"), Ok(false));
-    assert_eq!(rt; shelf.fault_count(), 1);
     Ok(())
 }
 
@@ -80,21 +76,39 @@ fn a_disk_in_memory_keeps_its_slots_in_order(rt: HostRuntime) -> Result<(), Fail
     Ok(())
 }
 
-#[test]
-fn a_slot_in_memory_is_read_from_its_front(rt: HostRuntime) -> Result<(), Fail> {
-    let mut disk = MemDisk::new(rt.alloc(), [3].to_vec(rt.alloc())?);
+/// Writes a slot, and reads its front back.
+fn front_of_a_slot<D: Disk>(disk: &mut D, slot: u64) -> Result<[u8; 2], Failed> {
     let mut into = [0u8; 2];
-    disk.write(5, b"abc")?;
-    disk.read(5, &mut into)?;
-    assert_eq!(rt; into, *b"ab");
-    assert_eq!(rt; disk.read(5, &mut into), Err(Failed));
-    assert_eq!(rt; (disk.write_count(), disk.fault_count()), (1, 1));
-    Ok(())
+    disk.write(slot, b"abc")?;
+    disk.read(slot, &mut into)?;
+    Ok(into)
 }
 
 #[test]
+fn a_slot_is_read_from_its_front(rt: HostRuntime) -> Result<(), Fail> {
+    let mut memory = MemDisk::new(rt.alloc(), [4].to_vec(rt.alloc())?);
+    assert_eq!(rt; front_of_a_slot(&mut memory, 5), Ok(*b"ab"));
+    assert_eq!(rt; front_of_a_slot(&mut memory, 5), Err(Failed));
+    let mut file = FileDisk::new(rt, scratch(&rt, "front")?);
+    assert_eq!(rt; front_of_a_slot(&mut file, 5), Ok(*b"ab"));
+    Ok(())
+}
+
+fn moves_between_threads<T: Send + Drop>(_: T) {}
+
+fn is_shared_by_threads<T: Sync>(_: &T) {}
+
+#[test]
 fn an_open_gate_lets_through(rt: HostRuntime) {
+    is_shared_by_threads(&OpenGate);
     OpenGate.at(&rt, 0, 1);
+}
+
+#[test]
+fn disks_move_between_threads(rt: HostRuntime) -> Result<(), Fail> {
+    moves_between_threads(MemDisk::new(rt.alloc(), Vec::new(rt.alloc())));
+    moves_between_threads(FileDisk::new(rt, Name::of(rt.alloc(), "dia_edge_never_made")?));
+    Ok(())
 }
 
 #[test]
@@ -104,24 +118,21 @@ fn a_folder_gives_its_files(rt: HostRuntime) -> Result<(), Fail> {
     fs::write(&rt, name.text(), "abcde")?;
     fs::create_dir(&rt, folder.text())?;
     let mut shelf = DirShelf::new(rt);
-    let mut into = [0u8; 8];
-    assert_eq!(rt; shelf.read(&mut into), Ok(0), "before the first open");
-    assert_eq!(rt; shelf.open(name.text()), Ok(true));
-    assert_eq!(rt; shelf.read(&mut into), Ok(5));
-    assert_eq!(rt; &into[..5], b"abcde".as_slice());
-    assert_eq!(rt; shelf.read(&mut into), Ok(0));
-    for absent in [
-        "",
-        "/etc/passwd",
-        "..",
-        "a/../b",
-        "dia_edge_nowhere",
-        "a\0b",
+    let mut into = [0u8; 6];
+    for (text, answer, count) in [
+        (name.text(), Ok(true), 5),
+        ("", Ok(false), 0),
+        ("/etc/passwd", Ok(false), 0),
+        ("..", Ok(false), 0),
+        ("a/../b", Ok(false), 0),
+        ("dia_edge_nowhere", Ok(false), 0),
+        ("a\0b", Ok(false), 0),
+        (folder.text(), Err(Failed), 0),
     ] {
-        assert_eq!(rt; shelf.open(absent), Ok(false), "at {absent:?}");
-        assert_eq!(rt; shelf.read(&mut into), Ok(0), "at {absent:?}");
+        assert_eq!(rt; shelf.open(text), answer, "at {text:?}");
+        assert_eq!(rt; shelf.read(&mut into), Ok(count), "at {text:?}");
     }
-    assert_eq!(rt; shelf.open(folder.text()), Err(Failed));
+    assert_eq!(rt; into, *b"abcde\0");
     assert_eq!(rt; shelf.fault_count(), 1);
     fs::remove_file(&rt, name.text())?;
     fs::remove_dir(&rt, folder.text())?;
@@ -141,24 +152,24 @@ fn the_standard_streams_take_pieces(rt: HostRuntime) {
 fn a_file_keeps_slots_and_loses_its_name(rt: HostRuntime) -> Result<(), Fail> {
     let name = scratch(&rt, "disk")?;
     let mut disk = FileDisk::new(rt, name.copy()?);
-    let mut into = [0u8; 3];
-    assert_eq!(rt;
-        disk.read(0, &mut into),
-        Err(Failed),
-        "before the first write"
-    );
-    assert_eq!(rt; disk.write(2, b"two"), Ok(()));
-    assert_eq!(rt; disk.write(0, b"zero"), Ok(()));
-    assert_eq!(rt; fs::exists(&rt, name.text())?, false);
-    assert_eq!(rt; disk.read(2, &mut into), Ok(()));
-    assert_eq!(rt; into, *b"two");
-    assert_eq!(rt; disk.read(0, &mut into), Ok(()));
-    assert_eq!(rt; into, *b"zer");
-    for (slot, why) in [(3, "past the end"), (1 << 43, "at byte 2^63")] {
-        assert_eq!(rt; disk.read(slot, &mut into), Err(Failed), "{why}");
+    for (slot, bytes, answer) in [
+        (2, "two", Ok(())),
+        (0, "zero", Ok(())),
+        (1 << 43, "at byte 2^63", Err(Failed)),
+    ] {
+        assert_eq!(rt; disk.write(slot, bytes.as_bytes()), answer, "at {bytes}");
     }
-    assert_eq!(rt; disk.write(1 << 43, b"far"), Err(Failed));
-    assert_eq!(rt; (disk.write_count(), disk.fault_count()), (2, 4));
+    assert_eq!(rt; fs::exists(&rt, name.text())?, false);
+    let mut into = [0u8; 3];
+    for (slot, answer, want) in [
+        (0, Ok(()), *b"zer"),
+        (2, Ok(()), *b"two"),
+        (3, Err(Failed), *b"two"),
+    ] {
+        assert_eq!(rt; disk.read(slot, &mut into), answer, "at {slot}");
+        assert_eq!(rt; into, want, "at {slot}");
+    }
+    assert_eq!(rt; (disk.write_count(), disk.fault_count()), (2, 2));
     Ok(())
 }
 
