@@ -30,7 +30,8 @@ module _ {X V : Type 0} where
   Meets holds state view =
       (views : List V) × (seat : ℕ) × (get_elem? views seat ≡ some view) × holds state views
 
-  -- whatever the others have, the rule is kept where the state goes from found to given and one seat's view from before to after
+  -- whatever the others have, the rule is kept where the state goes from found to given
+  -- and one seat's view from before to after
   abbrev pub Steps : (X → List V → Type 0) → X → X → V → V → Type 0
   Steps holds found given before after =
       (views : List V) (seat : ℕ) → holds found views → get_elem? views seat ≡ some before
@@ -56,3 +57,14 @@ module _ {S X V : Type 0} where
   -- the seat has the turn, and took this state
   abbrev pub Holds : Seat (Slot S) (Doing X V) → X → Type 0
   Holds seat found = seat.me ≡ (doing (Holding found) seat.me.0.view, (0, std.None) ∷ [])
+
+  -- the seat has the turn, and the rule is kept where it gives this state and its view changes as the event says
+  abbrev pub MayGive : (X → List V → Type 0) → Seat (Slot S) (Doing X V) → X → (X → X → V → V) → Type 0
+  MayGive holds seat given event =
+      (found : X) × Holds seat found
+      × Steps holds found given (seat_view seat) (event found given (seat_view seat))
+
+  -- the view of the seat that gave this state has changed as the event says
+  abbrev pub HasGiven : Seat (Slot S) (Doing X V) → X → (X → X → V → V) → Seat (Slot S) (Doing X V) → Type 0
+  HasGiven before given event after =
+      (found : X) → Holds before found → seat_view after ≡ event found given (seat_view before)

@@ -1,5 +1,6 @@
 //! What no clause says: that turns come, and that what threads do in turns adds up.
-ghost use Rattle.std.specs.Prelude.{◌≡◌, ◌+◌, ◌≤◌};
+ghost use Rattle.std.specs.Prelude.{◌≡◌, ◌+◌};
+ghost use Rattle.turn_table.specs.Shares.{IsCounted};
 
 mod counter;
 mod tally;
@@ -34,9 +35,7 @@ fn four_threads_add_up(rt: HostRuntime) -> Result<(), Fail> {
 /// Takes and gives ten thousand turns, and answers how many of them added one.
 fn count<R: Wait>(rt: &R, counter: &Counter, mut part: Part) -> (Part, u64)
     requires own { part.counter ≡ counter.now }
-    ensures own { result.0.counter ≡ counter.now }
-    ensures counted { result.0.amount ≡ part.amount + result.1 }
-    ensures most { result.1 ≤ 10000 }
+    ensures counted { IsCounted counter.now part.amount 10000 result }
 {
     let mut counted = 0;
     for _round in 0..10_000u64 {
@@ -54,20 +53,18 @@ fn count_by_two<R: Threads + Wait + Sync>(
     parts: (Part, Part),
 ) -> (Part, u64)
     requires own { (parts.0.counter ≡ counter.now) × (parts.1.counter ≡ counter.now) }
-    ensures own { result.0.counter ≡ counter.now }
-    ensures counted { result.0.amount ≡ parts.0.amount + parts.1.amount + result.1 }
-    ensures most { result.1 ≤ 20000 }
+    ensures counted { IsCounted counter.now (parts.0.amount + parts.1.amount) 20000 result }
 {
     let (one, two) = parts;
     let ((mut part, first), (other, second)) = join(
         rt,
         move || -> (Part, u64)
             requires { one.counter ≡ counter.now }
-            ensures { (result.0.counter ≡ counter.entry.now) × (result.0.amount ≡ one.amount + result.1) × (result.1 ≤ 10000) }
+            ensures { IsCounted counter.entry.now one.amount 10000 result }
         { count(rt, counter, one) },
         move || -> (Part, u64)
             requires { two.counter ≡ counter.now }
-            ensures { (result.0.counter ≡ counter.entry.now) × (result.0.amount ≡ two.amount + result.1) × (result.1 ≤ 10000) }
+            ensures { IsCounted counter.entry.now two.amount 10000 result }
         { count(rt, counter, two) },
     );
     counter.merge(&mut part, other);
@@ -83,19 +80,17 @@ fn count_by_four<R: Threads + Wait + Sync>(
 ) -> (Part, u64)
     requires left { (left.0.counter ≡ counter.now) × (left.1.counter ≡ counter.now) }
     requires right { (right.0.counter ≡ counter.now) × (right.1.counter ≡ counter.now) }
-    ensures own { result.0.counter ≡ counter.now }
-    ensures counted { result.0.amount ≡ left.0.amount + left.1.amount + (right.0.amount + right.1.amount) + result.1 }
-    ensures most { result.1 ≤ 40000 }
+    ensures counted { IsCounted counter.now (left.0.amount + left.1.amount + (right.0.amount + right.1.amount)) 40000 result }
 {
     let ((mut part, first), (other, second)) = join(
         rt,
         move || -> (Part, u64)
             requires { (left.0.counter ≡ counter.now) × (left.1.counter ≡ counter.now) }
-            ensures { (result.0.counter ≡ counter.entry.now) × (result.0.amount ≡ left.0.amount + left.1.amount + result.1) × (result.1 ≤ 20000) }
+            ensures { IsCounted counter.entry.now (left.0.amount + left.1.amount) 20000 result }
         { count_by_two(rt, counter, left) },
         move || -> (Part, u64)
             requires { (right.0.counter ≡ counter.now) × (right.1.counter ≡ counter.now) }
-            ensures { (result.0.counter ≡ counter.entry.now) × (result.0.amount ≡ right.0.amount + right.1.amount + result.1) × (result.1 ≤ 20000) }
+            ensures { IsCounted counter.entry.now (right.0.amount + right.1.amount) 20000 result }
         { count_by_two(rt, counter, right) },
     );
     counter.merge(&mut part, other);

@@ -1,7 +1,7 @@
 //! The turn itself.
 ghost use Rattle.std.specs.Prelude.{◌≡◌, [], ◌∷◌, IfOk, IfErr};
 ghost use Rattle.atomic_table.specs.Seated.{TableId};
-ghost use Rattle.turn_table.specs.Seats.{Meets, Steps, Holds, IsIdle, IsSameSeat, IsToken, seat_view};
+ghost use Rattle.turn_table.specs.Seats.{Meets, MayGive, HasGiven, Holds, IsIdle, IsSameSeat, IsToken, seat_view};
 ghost use Rattle.turn_table.specs.Turning.{MayReach};
 
 use crate::cut::Cut;
@@ -49,8 +49,8 @@ impl<S: Shared> Turn<S> {
     /// memory; where there is none, the state comes back.
     pub fn open(alloc: Global, state: S) -> Result<(Turn<S>, Seat<S>), (S, NoMemory)>
         requires { S.holds (S.plain state) (S.opening (S.plain state) ∷ []) }
-        ensures own { IfOk result (λ opened. opened.1.table_id ≡ opened.0) }
-        ensures first { IfOk result (λ opened. IsIdle opened.1 × (seat_view opened.1 ≡ S.opening (S.plain state))) }
+        ensures own { IfOk result (λ opened. (opened.1.table_id ≡ opened.0) × IsIdle opened.1) }
+        ensures first { IfOk result (λ opened. seat_view opened.1 ≡ S.opening (S.plain state)) }
         ensures refused { IfErr result (λ refused. refused.0 ≡ state) }
     {
         let opening = Snapshot::of(&state);
@@ -109,11 +109,9 @@ impl<S: Shared> Turn<S> {
     /// as the event says.
     pub fn give<M: Event<S::Plain, S::View>>(&self, seat: &mut Seat<S>, state: S)
         requires own { seat.old.table_id ≡ self.now }
-        requires rule { (found : S.Plain) × Holds seat.old found
-            × Steps S.holds found (S.plain state) (seat_view seat.old) (M.after found (S.plain state) (seat_view seat.old)) }
+        requires rule { MayGive S.holds seat.old (S.plain state) M.after }
         ensures same { IsSameSeat seat.old seat.new × IsIdle seat.new }
-        ensures view { (found : S.Plain) → Holds seat.old found
-            → seat_view seat.new ≡ M.after found (S.plain state) (seat_view seat.old) }
+        ensures view { HasGiven seat.old (S.plain state) M.after seat.new }
     {
         let shared = &self.table.shared;
         let none = shared.exchange(seat, 0, Some(state));

@@ -71,7 +71,8 @@ impl Counter {
     pub fn add<R: Wait>(&self, rt: &R, part: &mut Part, amount: u64) -> Option<u64>
         requires own { part.old.counter ≡ self.now }
         ensures same { part.new.counter ≡ part.old.counter }
-        ensures added { MatchOption result (part.new.amount ≡ part.old.amount) (λ _. part.new.amount ≡ part.old.amount + amount) }
+        ensures added { MatchOption result (part.new.amount ≡ part.old.amount)
+            (λ _. part.new.amount ≡ part.old.amount + amount) }
         ensures found { IfSome result (λ found. part.old.amount ≤ found) }
     {
         let mut tally = self.turn.take(rt, &mut part.seat);
