@@ -13,7 +13,7 @@ use std::thread::{Threads, join};
 #[test]
 fn each_seat_finds_what_the_other_gave(rt: HostRuntime) -> Result<(), Fail> {
     let (counter, mut first) = Counter::open(rt.alloc(), 40)?;
-    let mut second = counter.part(&mut first).into_ticket().into_part();
+    let mut second = counter.part(&mut first, 10).into_ticket().into_part();
     assert_eq!(rt; counter.add(&rt, &mut second, 2), Some(40));
     assert_eq!(rt; counter.add(&rt, &mut first, 5), Some(42));
     assert_eq!(rt; counter.close(&rt, first), 47);
@@ -23,9 +23,9 @@ fn each_seat_finds_what_the_other_gave(rt: HostRuntime) -> Result<(), Fail> {
 #[test]
 fn four_threads_add_up(rt: HostRuntime) -> Result<(), Fail> {
     let (counter, mut one) = Counter::open(rt.alloc(), 0)?;
-    let two = counter.part(&mut one);
-    let three = counter.part(&mut one);
-    let four = counter.part(&mut one);
+    let two = counter.part(&mut one, 0);
+    let three = counter.part(&mut one, 0);
+    let four = counter.part(&mut one, 0);
     let (part, counted) = count_by_four(&rt, &counter, (one, two), (three, four));
     assert_eq!(rt; counted, 40_000);
     assert_eq!(rt; counter.close(&rt, part), 40_000);

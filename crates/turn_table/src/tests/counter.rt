@@ -1,12 +1,14 @@
 //! A counter that threads add to in turns, and what its calls say of the shared total.
 ghost use Rattle.std.specs.Prelude.{◌≡◌, ℕ, ◌+◌, ◌≤◌, IfOk, IfSome, MatchOption};
 ghost use Rattle.atomic_table.specs.Seated.{TableId};
+ghost use Rattle.turn_table.specs.Seats.{IsIdle, IsSameSeat, seat_view};
+ghost use Rattle.turn_table.specs.Shares.{IsCut};
 
-use super::tally::{Nothing, Raised, Tally};
-use crate::{Seat, Token, Turn};
+use super::tally::{Raised, Tally};
+use crate::{Cut, Seat, Token, Turn};
 use dia_edge::NoMemory;
 use std::alloc::Global;
-use std::marker::Model;
+use std::marker::{Brand, Model};
 use std::sync::Wait;
 
 /// Contracts see which counter it is.
@@ -81,14 +83,16 @@ impl Counter {
         found
     }
 
-    /// A new part, with nothing of the total.
-    pub fn part(&self, part: &mut Part) -> Part
+    /// A new part, which has this much of what the part had.
+    pub fn part(&self, part: &mut Part, amount: u64) -> Part
         requires own { part.old.counter ≡ self.now }
-        ensures same { part.new ≡ part.old }
-        ensures new { (result.counter ≡ part.old.counter) × (result.amount ≡ 0) }
+        requires has { amount ≤ part.old.amount }
+        ensures same { part.new.counter ≡ part.old.counter }
+        ensures kept { part.new.amount + amount ≡ part.old.amount }
+        ensures new { (result.counter ≡ part.old.counter) × (result.amount ≡ amount) }
     {
         Part {
-            seat: self.turn.split::<Nothing>(&mut part.seat),
+            seat: cut_off::<Brand>(&self.turn, &mut part.seat, amount),
         }
     }
 
@@ -112,6 +116,20 @@ impl Counter {
         let Tally { total } = turn.close(rt, seat);
         total
     }
+}
+
+/// Splits the seat by a cut that the caller picks, which gives the new seat this amount.
+fn cut_off<C: Cut<u64>>(turn: &Turn<Tally>, seat: &mut Seat<Tally>, amount: u64) -> Seat<Tally>
+    requires own { seat.old.table_id ≡ turn.now }
+    requires idle { IsIdle seat.old }
+    requires cut { IsCut (seat_view seat.old) (C.kept (seat_view seat.old)) (C.given (seat_view seat.old)) }
+    requires given { amount ≡ C.given (seat_view seat.old) }
+    ensures same { IsSameSeat seat.old seat.new × IsIdle seat.new }
+    ensures kept { seat_view seat.new ≡ C.kept (seat_view seat.old) }
+    ensures new { (result.table_id ≡ seat.old.table_id) × IsIdle result }
+    ensures given { seat_view result ≡ amount }
+{
+    turn.split::<C>(seat)
 }
 
 impl Part {

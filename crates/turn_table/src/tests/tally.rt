@@ -2,7 +2,7 @@
 ghost use Rattle.std.specs.Prelude.{◌↔◌, ◌+◌, ◌^◌, ◌<◌, IsSome};
 ghost use Rattle.turn_table.specs.Shares.{IsAdded};
 
-use crate::{Cut, Event, Shared};
+use crate::{Event, Shared};
 
 /// A number that parts add to. It isn't `Drop`, so that each path gives it back.
 pub struct Tally {
@@ -55,13 +55,4 @@ impl Event<u64, u64> for Raised {
     ghost use Rattle.std.specs.Prelude.{◌+◌, ◌-◌};
 
     ghost after = { λ found given share. share + (given - found) };
-}
-
-/// The new seat has no share.
-pub struct Nothing;
-
-impl Cut<u64> for Nothing {
-    ghost kept = { λ share. share };
-
-    ghost given = { λ _. 0 };
 }
