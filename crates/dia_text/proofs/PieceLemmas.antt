@@ -41,7 +41,7 @@ pub pieces-first : (a i : ℕ) (bytes : List ℕ) → IsUnbroken a (take i bytes
 pieces-first a i bytes through ends =
     let rest = drop (i + 1) bytes in
     let parts : bytes ≡ take i bytes ++ (a ∷ rest) =
-        sym (take-append-drop (i + 1) bytes) ∙ ap (λ (xs : List ℕ). xs ++ rest) ends ∙ append_assoc (take i bytes) (a ∷ []) rest in
+    sym (take-append-drop (i + 1) bytes) ∙ ap (λ (xs : List ℕ). xs ++ rest) ends ∙ append_assoc (take i bytes) (a ∷ []) rest in
     ap (pieces_from a []) parts ∙ through [] (a ∷ rest) ∙ pieces-at a (take i bytes) rest
 
 -- what a search for the separator says of the pieces
@@ -52,7 +52,7 @@ unbroken-by_search a bytes (Some i) is = λ run rest.
     let high = is.0.high in
     let short : length (take i bytes) ≡ i = length-take-le i bytes (omega arith) in
     pieces-through a run (take i bytes) rest
-        (λ k low e. is.0.before k (omega arith) (omega (arith, short, low)) (eq-eqb _ _ (sym (get_or-take i bytes k 0 (omega (arith, short, low))) ∙ e)))
+    (λ k low e. is.0.before k (omega arith) (omega (arith, short, low)) (eq-eqb _ _ (sym (get_or-take i bytes k 0 (omega (arith, short, low))) ∙ e)))
 
 pub ends-by_search : (a : ℕ) (bytes : List ℕ) (place : Option ℕ) → IsFirstByte (is_byte a) bytes place
     → IfSome place (λ i. take (i + 1) bytes ≡ take i bytes ++ a ∷ [])
@@ -68,12 +68,12 @@ unfolding pieces_from
 pieces-begin a run [] some = ([], [], last_piece-some run some ∙ ap (λ (xs : List ℕ). xs ∷ []) (sym (append-nil run)))
 pieces-begin a run (b ∷ bytes) some =
     elim (eqb b a) as (λ t. (rest : List ℕ) × (later : List (List ℕ))
-        × (cond t (run ∷ pieces_from a [] bytes) (pieces_from a (run ++ b ∷ []) bytes) ≡ (run ++ rest) ∷ later)) [
-      true ↦ ([], pieces_from a [] bytes, ap (λ (xs : List ℕ). xs ∷ pieces_from a [] bytes) (sym (append-nil run)))
-    | false ↦
-        let longer = length-append run (b ∷ []) in
-        let begun = pieces-begin a (run ++ b ∷ []) bytes (omega arith) in
-        (b ∷ begun.0, begun.1, begun.2 ∙ ap (λ (xs : List ℕ). xs ∷ begun.1) (append_assoc run (b ∷ []) begun.0))
+    × (cond t (run ∷ pieces_from a [] bytes) (pieces_from a (run ++ b ∷ []) bytes) ≡ (run ++ rest) ∷ later)) [
+      | true ↦ ([], pieces_from a [] bytes, ap (λ (xs : List ℕ). xs ∷ pieces_from a [] bytes) (sym (append-nil run)))
+      | false ↦
+          let longer = length-append run (b ∷ []) in
+          let begun = pieces-begin a (run ++ b ∷ []) bytes (omega arith) in
+          (b ∷ begun.0, begun.1, begun.2 ∙ ap (λ (xs : List ℕ). xs ∷ begun.1) (append_assoc run (b ∷ []) begun.0))
     ]
 
 -- at the end of the bytes all words are there

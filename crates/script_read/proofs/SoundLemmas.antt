@@ -21,16 +21,16 @@ find-append_some : {A : Type 0} (p : A → Bool) (xs ys : List A) (x : A) → fi
 find-append_some p [] ys x is = cc
 find-append_some p (a ∷ xs) ys x is =
     elim (p a) as (λ t. cond t (Some a) (find p xs) ≡ Some x → cond t (Some a) (find p (xs ++ ys)) ≡ Some x) [
-      true ↦ λ e. e
-    | false ↦ λ e. find-append_some p xs ys x e
+      | true ↦ λ e. e
+      | false ↦ λ e. find-append_some p xs ys x e
     ] is
 
 find-append_none : {A : Type 0} (p : A → Bool) (xs ys : List A) → find p xs ≡ None → find p (xs ++ ys) ≡ find p ys
 find-append_none p [] ys is = refl
 find-append_none p (a ∷ xs) ys is =
     elim (p a) as (λ t. cond t (Some a) (find p xs) ≡ None → cond t (Some a) (find p (xs ++ ys)) ≡ find p ys) [
-      true ↦ λ e. let wrong : ⊥ = cc in absurd wrong
-    | false ↦ λ e. find-append_none p xs ys e
+      | true ↦ λ e. let wrong : ⊥ = cc in absurd wrong
+      | false ↦ λ e. find-append_none p xs ys e
     ] is
 
 -- what was found is found again, and the number of the next line is new
@@ -53,8 +53,8 @@ some_same x y e = cc
 only_one : (p : Earlier → Bool) (one e : Earlier) → find p (one ∷ []) ≡ Some e → one ≡ e
 only_one p one e is =
     elim (p one) as (λ t. cond t (Some one) None ≡ Some e → one ≡ e) [
-      true ↦ λ same. some_same one e same
-    | false ↦ λ wrong. let no : ⊥ = cc in absurd no
+      | true ↦ λ same. some_same one e same
+      | false ↦ λ wrong. let no : ⊥ = cc in absurd no
     ] is
 
 found_again : (known : Known) (n : ℕ) (one : Earlier) → IsNumbered known n → n ≤ one.number → (w : List ℕ) (e : Earlier) (o : Option Earlier)
@@ -66,11 +66,11 @@ found_again known n one h low w e (Some x) was is =
     find-append_some (λ (y : Earlier). eqb y.number e.number) known.lines (one ∷ []) e (subst Again same (h.again w x was))
 found_again known n one h low w e None was is =
     let same : one ≡ e = only_one (λ (y : Earlier). bytes_eq y.name w) one e
-        (sym (find-append_none (λ (y : Earlier). bytes_eq y.name w) known.lines (one ∷ []) was) ∙ is) in
+    (sym (find-append_none (λ (y : Earlier). bytes_eq y.name w) known.lines (one ∷ []) was) ∙ is) in
     let Again : Earlier → Type 0 = λ y. find (λ (x : Earlier). eqb x.number y.number) (known.lines ++ one ∷ []) ≡ Some y in
     subst Again same
-        (find-append_none (λ (x : Earlier). eqb x.number one.number) known.lines (one ∷ []) (h.new one.number low)
-         ∙ find_one (λ (x : Earlier). eqb x.number one.number) one (eq-eqb one.number one.number refl))
+    (find-append_none (λ (x : Earlier). eqb x.number one.number) known.lines (one ∷ []) (h.new one.number low)
+    ∙ find_one (λ (x : Earlier). eqb x.number one.number) one (eq-eqb one.number one.number refl))
 
 -- one more line keeps that
 numbered_line : (known : Known) (n m : ℕ) (s : Statement) (kinds : List Kind) → IsNumbered known n → n ≤ m → IsNumbered (known_after known m s kinds) (m + 1)
@@ -80,8 +80,8 @@ numbered_line known n m (line name form) kinds h low =
     record {
       again = λ w e is. found_again known n one h low w e (earlier_named known w) refl is;
       new = λ k high.
-        find-append_none (λ (x : Earlier). eqb x.number k) known.lines (one ∷ []) (h.new k (omega arith))
-        ∙ find_not (λ (x : Earlier). eqb x.number k) one (ne_eqb m k (λ same. omega arith))
+          find-append_none (λ (x : Earlier). eqb x.number k) known.lines (one ∷ []) (h.new k (omega arith))
+          ∙ find_not (λ (x : Earlier). eqb x.number k) one (ne_eqb m k (λ same. omega arith));
     }
 
 -- a line without a cause -------------------------------------------------------------------------------------
@@ -116,14 +116,17 @@ stated_is known bytes p s kinds (Some word) None is e =
     let bad_form = not (list_all is_printable bytes) || has_bad_name p.defines p.word in
     let bad_count = has_bad_count (Some word) p.args in
     let f = six_false (bad_form || bad_count) (has_unknown_name known (Some word) p.args) (has_taken_name known p.defines)
-        (has_unknown_word (Some word) p.args) (has_bad_column known (Some word) p.args) (has_too_many_columns (Some word) p.args) is in
+    (has_unknown_word (Some word) p.args) (has_bad_column known (Some word) p.args) (has_too_many_columns (Some word) p.args) is in
     let parts = or_parts bad_form bad_count f.0 in
     record {
       word = word;
       statement = (let same : s ≡ statement_in known p.defines word p.args = cc in same);
       result = (let same : kinds ≡ result_kinds known word p.args = cc in same);
       count = not-false (fits_count word (length p.args)) parts.1;
-      names = f.1; exprs = f.3; columns = f.4; few = f.5
+      names = f.1;
+      exprs = f.3;
+      columns = f.4;
+      few = f.5;
     }
 
 line_parts : (known : Known) (bytes : List ℕ) (s : Statement) (kinds : List Kind) → line_reading known bytes ≡ stated s kinds
@@ -131,15 +134,15 @@ line_parts : (known : Known) (bytes : List ℕ) (s : Statement) (kinds : List Ki
 unfolding line_reading
 line_parts known bytes s kinds is =
     elim (ltb line_limit (length bytes)) as (λ t.
-        cond t (refused LineLong) (cond (is_skipped_words (words_of bytes)) skipped (reading_of_parts known bytes (sentence_of (words_of bytes)))) ≡ stated s kinds
-        → reading_of_parts known bytes (sentence_of (words_of bytes)) ≡ stated s kinds) [
-      true ↦ λ e. let wrong : ⊥ = cc in absurd wrong
-    | false ↦ λ e. elim (is_skipped_words (words_of bytes)) as (λ t.
-        cond t skipped (reading_of_parts known bytes (sentence_of (words_of bytes))) ≡ stated s kinds
-        → reading_of_parts known bytes (sentence_of (words_of bytes)) ≡ stated s kinds) [
-          true ↦ λ f. let wrong : ⊥ = cc in absurd wrong
-        | false ↦ λ f. f
-        ] e
+    cond t (refused LineLong) (cond (is_skipped_words (words_of bytes)) skipped (reading_of_parts known bytes (sentence_of (words_of bytes)))) ≡ stated s kinds
+    → reading_of_parts known bytes (sentence_of (words_of bytes)) ≡ stated s kinds) [
+      | true ↦ λ e. let wrong : ⊥ = cc in absurd wrong
+      | false ↦ λ e. elim (is_skipped_words (words_of bytes)) as (λ t.
+          cond t skipped (reading_of_parts known bytes (sentence_of (words_of bytes))) ≡ stated s kinds
+          → reading_of_parts known bytes (sentence_of (words_of bytes)) ≡ stated s kinds) [
+            | true ↦ λ f. let wrong : ⊥ = cc in absurd wrong
+            | false ↦ λ f. f
+          ] e
     ] is
 
 -- what is stated is sound -------------------------------------------------------------------------------------
@@ -203,9 +206,11 @@ by_word known n p Map h count names exprs columns few =
     let kinds = have_kinds (kinds_of_earlier (operand_in known p.args)) es (bad_column_of (operand_in known p.args) es there.1 columns) in
     let Have : Option Earlier → Type 0 = λ o. HaveKinds (kinds_of_earlier o) es in
     record {
-      sound = (subst Is (sym there.0) there.1,
-        (subst Have (sym there.0) kinds, some_exprs expr_of p.args count exprs, ltb-false 6 (length es) few));
-      result = ap (λ (ks : List Kind). filter_map (expr_kind ks) es) (same_kinds (operand_in known p.args) ∙ ap kinds_of_earlier (sym there.0))
+      sound = (
+        subst Is (sym there.0) there.1,
+        (subst Have (sym there.0) kinds, some_exprs expr_of p.args count exprs, ltb-false 6 (length es) few),
+      );
+      result = ap (λ (ks : List Kind). filter_map (expr_kind ks) es) (same_kinds (operand_in known p.args) ∙ ap kinds_of_earlier (sym there.0));
     }
 
 line_sound : (known : Known) (n : ℕ) (bytes : List ℕ) (s : Statement) (kinds : List Kind) → IsNumbered known n → line_reading known bytes ≡ stated s kinds
@@ -218,7 +223,7 @@ line_sound known n bytes s kinds h is =
     let Sound : Statement → Type 0 = λ t. IsSoundStatement known t in
     record {
       sound = subst Sound (sym i.statement) b.sound;
-      result = i.result ∙ b.result ∙ ap (statement_kinds known) (sym i.statement)
+      result = i.result ∙ b.result ∙ ap (statement_kinds known) (sym i.statement);
     }
 
 -- scripts --------------------------------------------------------------------------------------------------------
@@ -247,10 +252,10 @@ by_reading : (known : Known) (n : ℕ) (more : List (List ℕ)) (script : Script
     → ((s : Statement) (kinds : List Kind) → r ≡ stated s kinds → IsSoundStated known s kinds)
     → ((k : Known) (m : ℕ) (later : Script) → IsNumbered k m → reading_from k m more ≡ Ok later → IsSound k m later)
     → elim r as (λ _. Result Script (ℕ × Cause)) [
-        skipped ↦ reading_from known (n + 1) more
+      | skipped ↦ reading_from known (n + 1) more
       | refused cause ↦ Err (n, cause)
       | stated statement kinds ↦ onto_script n statement (reading_from (known_after known n statement kinds) (n + 1) more)
-      ] ≡ Ok script
+    ] ≡ Ok script
     → IsSound known n script
 by_reading known n more script skipped h sound later is =
     let low : n ≤ n + 1 = omega arith in
@@ -259,7 +264,7 @@ by_reading known n more script (refused cause) h sound later is = let wrong : �
 by_reading known n more script (stated s kinds) h sound later is =
     let low : n ≤ n = omega arith in
     sound_onto known n s kinds (reading_from (known_after known n s kinds) (n + 1) more) script (sound s kinds refl)
-        (λ rest e. later (known_after known n s kinds) (n + 1) rest (numbered_line known n n s kinds h low) e) is
+    (λ rest e. later (known_after known n s kinds) (n + 1) rest (numbered_line known n n s kinds h low) e) is
 
 script_sound : (known : Known) (n : ℕ) (lines : List (List ℕ)) (script : Script) → IsNumbered known n → reading_from known n lines ≡ Ok script → IsSound known n script
 unfolding reading_from
@@ -269,7 +274,7 @@ script_sound known n [] script h is =
     subst Sound none tt
 script_sound known n (bytes ∷ more) script h is =
     by_reading known n more script (line_reading known bytes) h (λ s kinds e. line_sound known n bytes s kinds h e)
-        (λ k m later i e. script_sound k m more later i e) is
+    (λ k m later i e. script_sound k m more later i e) is
 
 pub lines_sound : (bytes : List ℕ) (script : Script) → reading_from nothing_known 1 (lines_of bytes) ≡ Ok script → IsSound nothing_known 1 script
 lines_sound bytes script is = script_sound nothing_known 1 (lines_of bytes) script numbered_nothing is

@@ -11,4 +11,4 @@ returns-clause-ok c =
 pub returns-clause-sound : goal.returns-clause-sound
 returns-clause-sound c =
     lines_sound c.args.bytes.now _
-        (reading-done _ _ _ _ _ (eqb-true _ _ (sym c.is_empty.ensures ∙ c.loop-rest-test.false)) c.loop-rest.invariant.reads ∙ ap Ok (sym c.of.ensures))
+    (reading-done _ _ _ _ _ (eqb-true _ _ (sym c.is_empty.ensures ∙ c.loop-rest-test.false)) c.loop-rest.invariant.reads ∙ ap Ok (sym c.of.ensures))
