@@ -15,5 +15,6 @@ mod sentence;
 mod statement;
 
 pub use dia_defs::{Cause, Word};
+pub use reader::{ReadErr, read_script};
 pub use script::Script;
 pub use statement::{Action, Form, Numbered, Statement};

@@ -1,0 +1,5 @@
+pub mod ChainLemmas
+pub mod FrontLemmas
+pub mod PrintLemmas
+pub mod MakingLemmas
+pub mod EndLemmas
