@@ -6,15 +6,13 @@ ghost use Rattle.dia_defs.specs.Sound.{IsSound};
 ghost use Rattle.dia_edge.specs.Counts.{HasRisen};
 ghost use Rattle.thrill_top.specs.Ends.{IsShelfFault, IsOutFault, UnlessWrite, IsInputFault, IsReadingFault, IsRunFault, IsScriptFault};
 
-use std::alloc::Global;
-
-use dia_edge::{Failed, Name, NoMemory, Shelf, Sink};
-use dia_lines::{InputErr, LineRows, read_input};
-use script_read::{ReadErr, Script, read_script};
-
 use crate::fault::TopFault;
 use crate::making::chain_to_print;
 use crate::print::print_rows;
+use dia_edge::{Failed, Name, NoMemory, Shelf, Sink};
+use dia_lines::{InputErr, LineRows, read_input};
+use script_read::{ReadErr, Script, read_script};
+use std::alloc::Global;
 
 // one byte more than a script may have
 const ASKED: usize = 131_329;

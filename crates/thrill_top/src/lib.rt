@@ -15,3 +15,6 @@ mod words;
 pub use fault::{TopFault, put_fault};
 pub use top::{TopEnd, thrill_call};
 pub use words::script_of;
+
+#[cfg(test)]
+mod tests;

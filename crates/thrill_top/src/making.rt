@@ -111,7 +111,10 @@ fn chain_after<'s>(
 }
 
 /// The chain of the line that the script's action prints; None where the script has no action.
-pub(crate) fn chain_to_print<'s>(alloc: Global, script: &'s Script) -> Result<Option<Made<'s>>, NoMemory>
+pub(crate) fn chain_to_print<'s>(
+    alloc: Global,
+    script: &'s Script,
+) -> Result<Option<Made<'s>>, NoMemory>
     requires { IsSound nothing_known 1 script.now }
     ensures { IfOk result (λ made. IfSome made (λ m. (kinds : List Kind) × Makes m kinds)) }
 {

@@ -5,13 +5,11 @@ ghost use Rattle.thrill_top.specs.Ends.{IsRunFault, UnlessWrite};
 ghost use Rattle.thrill_top.specs.Faults.{fault_status};
 ghost use Rattle.thrill_top.specs.Words.{script_of};
 
-use std::alloc::Global;
-
-use dia_edge::{Disk, Gate, Name, Shelf, Sink};
-
 use crate::fault::{TopFault, put_fault};
 use crate::job::run_script;
 use crate::words::script_of;
+use dia_edge::{Disk, Gate, Name, Shelf, Sink};
+use std::alloc::Global;
 
 /// How a call of the program ended.
 #[derive(Drop)]
