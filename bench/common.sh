@@ -64,3 +64,7 @@ verdict() { awk "BEGIN { print ($1) ? \"yes\" : \"NO\" }"; }
 
 # The smaller of two numbers, of which the first may be empty.
 least() { if [ -z "$1" ]; then echo "$2"; else calculate %s "$1 < $2 ? \"$1\" : \"$2\""; fi; }
+
+# The middle one of some numbers. Ratios are taken of runs that follow one another, since what else the machine does
+# changes from minute to minute.
+median() { printf '%s\n' "$@" | sort -g | awk '{ all[NR] = $1 } END { print all[int((NR + 1) / 2)] }'; }

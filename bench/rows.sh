@@ -7,7 +7,7 @@
 
 rows=1000000
 rounds=${1:-60}
-runs=5
+runs=7
 
 say "building both programs (the proof of the one takes about a minute) ..."
 copy_repository dia_item dia_defs dia_edge
@@ -19,9 +19,8 @@ rustc -O -o "$work/plain" "$here/rows/plain.rs"
 in_crate bench_rows rt run -- "$work/rows" 1
 proved=$work/repository/crates/bench_rows/out/bench_rows
 
-# Each clocks its rounds itself, without start and reading; of several runs in turn the shortest counts.
-proved_time=
-plain_time=
+# Each clocks its rounds itself, without start and reading.
+proved_time= plain_time= ratios=()
 for _ in $(seq "$runs"); do
     measure "$proved" "$work/rows" "$rounds" >"$work/proved.out"
     proved_peak=$peak
@@ -32,11 +31,14 @@ for _ in $(seq "$runs"); do
         head -n 1 "$work/proved.out" "$work/plain.out" >&2
         exit 1
     fi
-    proved_time=$(least "$proved_time" "$(tail -n 1 "$work/proved.out")")
-    plain_time=$(least "$plain_time" "$(tail -n 1 "$work/plain.out")")
+    proved_now=$(tail -n 1 "$work/proved.out")
+    plain_now=$(tail -n 1 "$work/plain.out")
+    proved_time=$(least "$proved_time" "$proved_now")
+    plain_time=$(least "$plain_time" "$plain_now")
+    ratios+=("$(calculate %.3f "$proved_now / $plain_now")")
 done
 
-ratio=$(calculate %.2f "$proved_time / $plain_time")
+ratio=$(median "${ratios[@]}")
 bytes=$(stat -c %s "$work/rows")
 echo "rows: $rows read and compared, $bytes bytes, $rounds rounds, best of $runs runs"
 printf '%-12s %12s %14s %12s\n' '' 'seconds' 'ns for a row' 'peak MiB'
@@ -46,4 +48,4 @@ for one in proved plain; do
     printf '%-12s %12s %14s %12s\n' "$one" "$(calculate %.2f "${!time} / 1000000")" \
         "$(calculate %.1f "${!time} * 1000 / $rows / $rounds")" "$(calculate %.0f "${!memory} / 1024")"
 done
-echo "ratio $ratio, wanted at most 1.50: $(verdict "$ratio <= 1.5")"
+echo "ratio $(calculate %.2f "$ratio") (the middle one of $runs), wanted at most 1.50: $(verdict "$ratio <= 1.5")"
