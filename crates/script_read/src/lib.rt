@@ -13,6 +13,8 @@ mod reader;
 mod script;
 mod sentence;
 mod statement;
+#[cfg(test)]
+mod tests;
 
 pub use dia_defs::{Cause, Word};
 pub use reader::{ReadErr, read_script};
