@@ -127,6 +127,19 @@ pub fn eval_int(expr: &Expr, row: RowRef<'_>) -> u64
     int_of(expr, &row)
 }
 
+/// Appends a column: the commonest expression, whose kind needs no look of its own.
+fn eval_column(i: u32, row: RowRef<'_>, into: &mut RowBuf)
+    requires column { i < length (row_in_ref row) }
+    requires room { length into.old < 6 }
+    ensures value { into.new ≡ into.old ++ slice_index_or (row_in_ref row.entry) i (int 0) ∷ [] }
+    ensures fits { Fits (slice_index_or (row_in_ref row.entry) i (int 0)) }
+{
+    match row.field(i as usize) {
+        Field::Int(v) => into.push_int(v),
+        Field::Text(t) => into.push_text(t),
+    }
+}
+
 /// Appends the value on a row as one column. It takes no memory, and a text is copied once, into the buffer.
 pub fn eval(expr: &Expr, row: RowRef<'_>, into: &mut RowBuf)
     requires kind { IsSome (expr_kind (kinds_of (row_in_ref row)) (expr_in expr.now)) }
@@ -134,6 +147,10 @@ pub fn eval(expr: &Expr, row: RowRef<'_>, into: &mut RowBuf)
     ensures value { into.new ≡ into.old ++ value_of (expr_in expr.now) (row_in_ref row.entry) ∷ [] }
     ensures fits { Fits (value_of (expr_in expr.now) (row_in_ref row.entry)) }
 {
+    if let Expr::Column(i) = expr {
+        eval_column(*i, row, into);
+        return;
+    }
     match kind_in(expr, &row) {
         Kind::Int => into.push_int(int_of(expr, &row)),
         Kind::Text => into.push_text(text_of(expr, &row).bytes()),

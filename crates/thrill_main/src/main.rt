@@ -1,11 +1,10 @@
 //! The program `thrill`: makes the real shelf, streams and disk, and calls `thrill_call`.
 #![tactic(auto)]
 
+use dia_edge::{DirShelf, MemDisk, Name, NoMemory, OpenGate, StdSink};
 use std::alloc::Global;
 use std::env;
 use std::process::ExitCode;
-
-use dia_edge::{DirShelf, MemDisk, Name, NoMemory, OpenGate, StdSink};
 use thrill_top::thrill_call;
 
 // the status of a call that found no memory for its words
