@@ -1,10 +1,11 @@
 -- What a script's lines mean: one list of rows for each, on the lists of the lines that it names.
-use Rattle.std.specs.Prelude.{◌≡◌, ℕ, ◌^◌, nat_lt, Bool, List, [], ◌∷◌, length, take, map, Option, None, Some, if◌then◌else◌}
-use Rattle.std.specs.List.{flat_map, position_from}
-use Rattle.dia_defs.specs.Rows.{Row, longest_text}
+use Rattle.std.specs.Prelude.{◌≡◌, ℕ, ◌+◌, ◌%◌, ◌^◌, ◌==◌, nat_lt, Bool, List, [], ◌∷◌, length, take, map, slice_set, Option, None, Some, if◌then◌else◌}
+use Rattle.std.specs.List.{flat_map, position_from, range_with_len}
+use Rattle.dia_defs.specs.Rows.{int, text, Row, longest_text}
 use Rattle.dia_defs.specs.Pieces.{lines_of, line_rows}
-use Rattle.dia_defs.specs.Values.{Expr, value_of}
-use Rattle.dia_defs.specs.Scripts.{LocalOp, map_op, Form, lines_form, local_form, Action, print_action}
+use Rattle.dia_defs.specs.Texts.{words_in_text}
+use Rattle.dia_defs.specs.Values.{Expr, column, number_in, bytes_in, value_of}
+use Rattle.dia_defs.specs.Scripts.{LocalOp, map_op, filter_op, words_op, spread_op, Form, lines_form, generate_form, local_form, Action, action_operand}
 
 -- the bytes of each input, or none where there is no such input
 abbrev pub Inputs : Type 0
@@ -14,13 +15,28 @@ Inputs = List ℕ → Option (List ℕ)
 abbrev pub Lists : Type 0
 Lists = ℕ → Option (List Row)
 
+-- the row with the word in a column's place
+abbrev pub with_word : Row → ℕ → List ℕ → Row
+with_word row c word = slice_set row c (text word)
+
+-- the row with so much added to a column
+abbrev pub raised : Row → ℕ → ℕ → Row
+raised row c by = slice_set row c (int ((number_in (value_of (column c) row) + by) % 2 ^ 64))
+
 -- the rows that a local line makes of one row
 abbrev pub rows_made : LocalOp → Row → List Row
 rows_made (map_op exprs) row = map (λ e. value_of e row) exprs ∷ []
+rows_made (filter_op e) row = if number_in (value_of e row) == 0 then [] else row ∷ []
+rows_made (words_op c) row = map (with_word row c) (words_in_text (bytes_in (value_of (column c) row)))
+rows_made (spread_op c count) row = map (raised row c) (range_with_len 0 count)
+
+abbrev pub number_row : ℕ → Row
+number_row n = int n ∷ []
 
 -- the list is a result of the line's definition
 abbrev pub IsLine : Inputs → Lists → Form → List Row → Type 0
 IsLine inputs lists (lines_form input) rows = (bytes : List ℕ) × (inputs input ≡ Some bytes) × (rows ≡ line_rows bytes)
+IsLine inputs lists (generate_form count) rows = rows ≡ map number_row (range_with_len 0 count)
 IsLine inputs lists (local_form of op) rows = (a : List Row) × (lists of ≡ Some a) × (rows ≡ flat_map (rows_made op) a)
 
 -- why a line or an action is not done
@@ -53,6 +69,7 @@ block_of_input (Some bytes) = block_of_long_line (long_line bytes) bytes
 
 abbrev pub block_of_form : Inputs → Form → Option Block
 block_of_form inputs (lines_form input) = block_of_input (inputs input)
+block_of_form inputs (generate_form count) = None
 block_of_form inputs (local_form of op) = None
 
 -- the rows of a line that has a list
@@ -60,5 +77,6 @@ abbrev pub rows_in : Option (List Row) → List Row
 rows_in None = []
 rows_in (Some rows) = rows
 
+-- an action isn't done where more rows arrive than may
 abbrev pub block_of_action : Lists → Action → Option Block
-block_of_action lists (print_action of) = if nat_lt most_rows (length (rows_in (lists of))) then Some too_many_rows else None
+block_of_action lists action = if nat_lt most_rows (length (rows_in (lists (action_operand action)))) then Some too_many_rows else None

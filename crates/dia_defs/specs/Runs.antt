@@ -1,9 +1,10 @@
 -- Runs of a script, and what they print.
-use Rattle.std.specs.Prelude.{◌≡◌, ℕ, ◌≤◌, List, [], ◌∷◌, ◌++◌, length, take, map, Option, None, Some, Contains, All, IsSome, ◌↔◌}
-use Rattle.std.specs.List.{flat_map, join_with_byte}
+use Rattle.std.specs.Prelude.{◌≡◌, ℕ, ◌%◌, ◌^◌, ◌≤◌, List, [], ◌∷◌, ◌++◌, length, take, map, Option, None, Some, Contains, All, IsSome, ◌↔◌}
+use Rattle.std.specs.List.{flat_map, join_with_byte, sum_by}
 use Rattle.std.specs.Fmt.{decimal}
 use Rattle.dia_defs.specs.Rows.{Cell, int, text, Row}
-use Rattle.dia_defs.specs.Scripts.{Form, Action, print_action, Statement, line, act, Script, statement_at}
+use Rattle.dia_defs.specs.Values.{column, number_in, value_of}
+use Rattle.dia_defs.specs.Scripts.{Form, Action, print_action, size_action, sum_action, Statement, line, act, Script, statement_at}
 use Rattle.dia_defs.specs.Lists.{Inputs, Lists, IsLine, Block, block_of_form, block_of_action, rows_in}
 use Rattle.dia_defs.specs.Work.{Item, do_line, do_action, work_of}
 
@@ -43,8 +44,18 @@ cell_text (text t) = t
 abbrev pub row_text : Row → List ℕ
 row_text row = join_with_byte 9 (map cell_text row) ++ 10 ∷ []
 
+-- a number on a line of its own
+abbrev pub number_line : ℕ → List ℕ
+number_line n = decimal n ++ 10 ∷ []
+
+-- the sum of a column, modulo 2^64
+abbrev pub column_sum : ℕ → List Row → ℕ
+column_sum c rows = sum_by (λ row. number_in (value_of (column c) row)) rows % 2 ^ 64
+
 abbrev pub action_text : Lists → Action → List ℕ
 action_text lists (print_action of) = flat_map row_text (rows_in (lists of))
+action_text lists (size_action of) = number_line (length (rows_in (lists of)))
+action_text lists (sum_action of c) = number_line (column_sum c (rows_in (lists of)))
 
 abbrev pub statement_text : Lists → Option Statement → List ℕ
 statement_text lists (Some (act action)) = action_text lists action
