@@ -30,6 +30,11 @@ rows_made (filter_op e) row = if number_in (value_of e row) == 0 then [] else ro
 rows_made (words_op c) row = map (with_word row c) (words_in_text (bytes_in (value_of (column c) row)))
 rows_made (spread_op c count) row = map (raised row c) (range_with_len 0 count)
 
+-- the rows that local lines, one after the other, make of one row
+abbrev pub rows_through : List LocalOp → Row → List Row
+rows_through [] row = row ∷ []
+rows_through (op ∷ ops) row = flat_map (rows_through ops) (rows_made op row)
+
 abbrev pub number_row : ℕ → Row
 number_row n = int n ∷ []
 

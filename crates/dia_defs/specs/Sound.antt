@@ -39,6 +39,11 @@ op_kinds kinds (filter_op e) = kinds
 op_kinds kinds (words_op c) = kinds
 op_kinds kinds (spread_op c count) = kinds
 
+-- of rows of the first kinds the local lines, one after the other, make rows of the second
+abbrev pub AreSoundOps : List Kind → List LocalOp → List Kind → Type 0
+AreSoundOps from [] to = from ≡ to
+AreSoundOps from (op ∷ ops) to = IsSoundOp from op × AreSoundOps (op_kinds from op) ops to
+
 abbrev pub form_kinds : Known → Form → List Kind
 form_kinds known (lines_form input) = Text ∷ []
 form_kinds known (generate_form count) = Int ∷ []
