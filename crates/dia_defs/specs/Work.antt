@@ -16,7 +16,7 @@ unfoldable pub closure : Script → List ℕ → List ℕ
 closure [] wanted = wanted
 closure (s ∷ later) wanted =
     let found = closure later wanted in
-    if has_number found s.number then operands_of s.statement ++ found else found
+    if has_number found s.number then found ++ operands_of s.statement else found
 
 abbrev pub is_line : Statement → Bool
 is_line (line name form) = true

@@ -197,7 +197,7 @@ by_word known n p Print h count names exprs columns few =
     let one = eqb-true (length p.args) 1 count in
     let there = operand_there known n p.args h (omega arith) names in
     let Is : Option Earlier → Type 0 = λ o. IsSome o in
-    record { sound = subst Is (sym there.0) there.1; result = refl }
+    record { sound = (subst Is (sym there.0) there.1, tt); result = refl }
 by_word known n p Map h count names exprs columns few =
     let two = leb-true 2 (length p.args) count in
     let there = operand_there known n p.args h (omega arith) names in
