@@ -1,15 +1,15 @@
 -- The work of a script is in order.
-use Rattle.std.proofs.Common.{◌≡◌, ℕ, ◌+◌, ◌<◌, ◌≤◌, Bool, true, false, not, ◌&&◌, ◌||◌, cond, eqb, List, [], ◌∷◌, ◌++◌, map, Option, None, Some, IsSome, find, refl, sym, ap, ◌∙◌, subst, arith, ◌⊎◌, inl, inr, append_assoc, append-nil}
-use Rattle.std.specs.List.{list_any, AllByRecursion}
+use Rattle.std.proofs.Common.{◌≡◌, ℕ, ◌+◌, ◌<◌, ◌≤◌, Bool, true, false, not, ◌&&◌, ◌||◌, cond, eqb, List, [], ◌∷◌, ◌++◌, map, Some, IsSome, find, refl, sym, ap, ◌∙◌, subst, arith, ◌⊎◌, inl, inr, append_assoc, append-nil}
+use Rattle.std.specs.List.{AllByRecursion}
 use Rattle.std.proofs.lemmas.Bool.{or_left, or_right, true≢false, eqb-true, eq-eqb, ne_eqb}
 use Rattle.std.proofs.lemmas.List.{map-append}
 use Rattle.std.proofs.lemmas.List.Folds.{list_any-append}
 use Rattle.dia_defs.specs.declared.kind.Kind.{Kind}
 use Rattle.dia_defs.specs.Scripts.{Form, lines_form, generate_form, local_form, form_operands, Action, action_operand, Statement, line, act, operands_of, Numbered, Script, statement_at}
 use Rattle.dia_defs.specs.Reading.{Earlier, Known, known_after, nothing_known}
-use Rattle.dia_defs.specs.Sound.{IsSound, IsSoundStatement, IsSoundForm, statement_kinds, earlier_numbered}
+use Rattle.dia_defs.specs.Sound.{IsSound, IsSoundStatement, IsSoundForm, statement_kinds}
 use Rattle.dia_defs.specs.Work.{Item, do_line, do_action, has_number, closure, is_line, lines_to_do, work_from, work_of}
-use Rattle.run_laws.specs.Order.{IsReadyLine, IsReadyAction, AreInOrder}
+use Rattle.run_laws.specs.Order.{IsReadyLine, AreInOrder}
 
 -- numbers among others ------------------------------------------------------------------------------------------
 
@@ -109,8 +109,8 @@ all_placed lines n [] h = tt
 all_placed lines n (s ∷ later) h = (
   (rw (eq-eqb s.number s.number refl) refl, h.0),
   every_map (IsPlaced later (s.number + 1)) (IsPlaced (s ∷ later) n)
-  (λ t p. (rw (ne_eqb s.number t.number (λ same. omega (arith, p.1))) p.0, omega (arith, h.0, p.1)))
-  later (all_placed (more_lines lines s.number s.statement) (s.number + 1) later h.2),
+      (λ t p. (rw (ne_eqb s.number t.number (λ same. omega (arith, p.1))) p.0, omega (arith, h.0, p.1)))
+      later (all_placed (more_lines lines s.number s.statement) (s.number + 1) later h.2),
 )
 
 abbrev lines_in : Script → List ℕ
@@ -132,7 +132,7 @@ closure_keeps (s ∷ later) wanted m h =
       | false ↦ closure_keeps later wanted m h
     ]
 
-AreBelow : List ℕ → ℕ → Type 0
+abbrev AreBelow : List ℕ → ℕ → Type 0
 AreBelow lines n = (m : ℕ) → has_number lines m ≡ true → m < n
 
 below_more : (lines : List ℕ) (n k : ℕ) (s : Statement) → AreBelow lines n → n ≤ k → AreBelow (more_lines lines k s) (k + 1)
@@ -163,7 +163,7 @@ closure_closed lines n (s ∷ later) wanted below h =
       | true ↦ λ is. (
         λ e. every_map (λ of. has_number ops of ≡ true) (λ of. has_number (found ++ ops) of ≡ true) (λ of g. has_right found ops of g) ops (every_has ops),
         every_both (IsClosedAt found) (λ (t : Numbered). s.number + 1 ≤ t.number) (IsClosedAt (found ++ ops))
-        (λ t closed up. closed_later found ops lines n s.number below h.0 h.1 t closed up) later rest high,
+            (λ t closed up. closed_later found ops lines n s.number below h.0 h.1 t closed up) later rest high,
       )
       | false ↦ λ is. (λ e. absurd (true≢false (sym e ∙ is)), rest)
     ] refl
@@ -193,9 +193,9 @@ to_do_has (s ∷ later) needed done m h need =
     λ same is. elim (to_do_cases (is_line s.statement) (has_number needed s.number) (has_number done s.number)) [
       | inl c ↦ subst Has (sym c.0) (has_right done (s.number ∷ rest) m (or_left (eqb s.number m) (has_number rest m) (eq-eqb s.number m same)))
       | inr c ↦
-        let Need : ℕ → Type 0 = λ k. has_number needed k ≡ true in
-        let Done : ℕ → Type 0 = λ k. has_number done k ≡ true in
-        subst Has (sym c.0) (has_left done rest m (subst Done same (c.1 is (subst Need (sym same) need))))
+          let Need : ℕ → Type 0 = λ k. has_number needed k ≡ true in
+          let Done : ℕ → Type 0 = λ k. has_number done k ≡ true in
+          subst Has (sym c.0) (has_left done rest m (subst Done same (c.1 is (subst Need (sym same) need))))
     ] in
     let behind : has_number (lines_in later) m ≡ true → Has (is_line s.statement && has_number needed s.number && not (has_number done s.number)) =
     λ e. elim (is_line s.statement && has_number needed s.number && not (has_number done s.number)) as Has [
@@ -203,7 +203,7 @@ to_do_has (s ∷ later) needed done m h need =
       | false ↦ to_do_has later needed done m e need
     ] in
     elim (is_line s.statement) as (λ t. is_line s.statement ≡ t → has_number (cond t (s.number ∷ lines_in later) (lines_in later)) m ≡ true
-        → Has (is_line s.statement && has_number needed s.number && not (has_number done s.number))) [
+    → Has (is_line s.statement && has_number needed s.number && not (has_number done s.number))) [
       | true ↦ λ is e. elim (or_cases (eqb s.number m) (has_number (lines_in later) m) e) [
         | inl f ↦ here (eqb-true s.number m f) is
         | inr f ↦ behind f
@@ -248,10 +248,10 @@ midst_other needed done lines acc n k (line name form) low other h = record {
   needed_done = λ m e need. elim (has_cases lines (k ∷ []) m e) [
     | inl f ↦ h.needed_done m f need
     | inr f ↦
-      let Need : ℕ → Type 0 = λ j. has_number needed j ≡ true in
-      let Acc : ℕ → Type 0 = λ j. has_number acc j ≡ true in
-      let same = is_one k m f in
-      subst Acc same (h.still k (other refl (subst Need (sym same) need)))
+        let Need : ℕ → Type 0 = λ j. has_number needed j ≡ true in
+        let Acc : ℕ → Type 0 = λ j. has_number acc j ≡ true in
+        let same = is_one k m f in
+        subst Acc same (h.still k (other refl (subst Need (sym same) need)))
   ];
   still = h.still;
   no_later = λ m e. elim (h.no_later m e) [ inl g ↦ inl g | inr g ↦ inr (omega (arith, low, g)) ];
@@ -293,10 +293,10 @@ to_do_in_order script needed done tail (s ∷ later) lines acc n h at closed m l
         ready_line script needed done lines acc n s h.0 c.1 c.2 at.0 h.1 closed.0 m,
         new_line needed done lines acc n k h.0 c.3 m,
         to_do_in_order script needed done tail later lines' (acc ++ k ∷ []) (k + 1) h.2 at.1 closed.1 (midst_line needed done lines acc n k s.statement h.0 c.1 m)
-        (subst In (sym (append_assoc acc (k ∷ []) rest)) e),
+            (subst In (sym (append_assoc acc (k ∷ []) rest)) e),
       ))
       | inr c ↦ subst Goal (sym c.0) (λ e.
-        to_do_in_order script needed done tail later lines' acc (k + 1) h.2 at.1 closed.1 (midst_other needed done lines acc n k s.statement h.0 c.1 m) e)
+          to_do_in_order script needed done tail later lines' acc (k + 1) h.2 at.1 closed.1 (midst_other needed done lines acc n k s.statement h.0 c.1 m) e)
     ] in
     result last
 
@@ -322,7 +322,7 @@ for_action script done action k later w at known last =
     to_do_in_order script needed done (do_action k ∷ later) script [] done 1 w.follows w.at (closure_closed [] 1 script (of ∷ []) no_lines w.follows) (at_first needed done)
     (record { action = action; is = at; operand = to_do_has script needed done of known (closure_keeps script (of ∷ []) of (has_one of)) }, last)
 
-AreKnown : Script → List ℕ → Type 0
+abbrev AreKnown : Script → List ℕ → Type 0
 AreKnown script lines = (m : ℕ) → has_number lines m ≡ true → has_number (lines_in script) m ≡ true
 
 known_more : (script : Script) (lines : List ℕ) (n : ℕ) (s : Statement) → AreKnown script lines → (is_line s ≡ true → has_number (lines_in script) n ≡ true)
@@ -336,31 +336,33 @@ known_more script lines n (line name form) known new = λ m h. elim (has_cases l
 abbrev IsIn : Script → Numbered → Type 0
 IsIn script s = (statement_at script s.number ≡ Some s.statement) × (is_line s.statement ≡ true → has_number (lines_in script) s.number ≡ true)
 
-work_in_order : (script rest : Script) (lines : List ℕ) (n : ℕ) (done : List ℕ) → IsWhole script → Follows lines n rest → AllByRecursion (IsIn script) rest
-    → AreKnown script lines → AreInOrder script done (work_from script done rest)
 by_statement : (script later : Script) (lines : List ℕ) (k : ℕ) (s : Statement) (done : List ℕ) → IsWhole script
     → AllByRecursion (λ of. has_number lines of ≡ true) (operands_of s) → Follows (more_lines lines k s) (k + 1) later
-    → statement_at script k ≡ Some s → (is_line s ≡ true → has_number (lines_in script) k ≡ true) → AllByRecursion (IsIn script) later → AreKnown script lines
+    → statement_at script k ≡ Some s → (is_line s ≡ true → has_number (lines_in script) k ≡ true) → AreKnown script lines
+    → ((more more' : List ℕ) → Follows more (k + 1) later → AreKnown script more → AreInOrder script more' (work_from script more' later))
     → AreInOrder script done (work_from script done (record { number = k; statement = s } ∷ later))
 unfolding work_from
-work_in_order script [] lines n done w h in known = tt
-work_in_order script (s ∷ later) lines n done w h in known =
-    by_statement script later lines s.number s.statement done w h.1 h.2 in.0.0 in.0.1 in.1 known
-unfolding work_from
-by_statement script later lines k (line name form) done w named h at new in known =
-    work_in_order script later (lines ++ k ∷ []) (k + 1) done w h in (known_more script lines k (line name form) known new)
-by_statement script later lines k (act action) done w named h at new in known =
+by_statement script later lines k (line name form) done w named h at new known next =
+    next (lines ++ k ∷ []) done h (known_more script lines k (line name form) known new)
+by_statement script later lines k (act action) done w named h at new known next =
     let more = lines_to_do script (closure script (action_operand action ∷ [])) done in
-    for_action script done action k (work_from script (done ++ more) later) w at (known (action_operand action) named.0)
-    (work_in_order script later lines (k + 1) (done ++ more) w h in known)
+    for_action script done action k (work_from script (done ++ more) later) w at (known (action_operand action) named.0) (next lines (done ++ more) h known)
+
+work_in_order : (script rest : Script) (lines : List ℕ) (n : ℕ) (done : List ℕ) → IsWhole script → Follows lines n rest → AllByRecursion (IsIn script) rest
+    → AreKnown script lines → AreInOrder script done (work_from script done rest)
+unfolding work_from
+work_in_order script [] lines n done w h found known = tt
+work_in_order script (s ∷ later) lines n done w h found known =
+    by_statement script later lines s.number s.statement done w h.1 h.2 found.0.0 found.0.1 known
+    (λ more after behind are. work_in_order script later more (s.number + 1) after w behind found.1 are)
 
 all_in : (script : Script) → AllByRecursion (λ (s : Numbered). is_line s.statement ≡ true → has_number (lines_in script) s.number ≡ true) script
 all_in [] = tt
 all_in (s ∷ later) = (
   λ is. rw is (or_left (eqb s.number s.number) (has_number (lines_in later) s.number) (eq-eqb s.number s.number refl)),
   every_map (λ (t : Numbered). is_line t.statement ≡ true → has_number (lines_in later) t.number ≡ true)
-  (λ (t : Numbered). is_line t.statement ≡ true → has_number (lines_in (s ∷ later)) t.number ≡ true)
-  (λ t h is. longer t.number (h is)) later (all_in later),
+      (λ (t : Numbered). is_line t.statement ≡ true → has_number (lines_in (s ∷ later)) t.number ≡ true)
+      (λ t h is. longer t.number (h is)) later (all_in later),
 )
   where
     longer : (m : ℕ) → has_number (lines_in later) m ≡ true → has_number (lines_in (s ∷ later)) m ≡ true
