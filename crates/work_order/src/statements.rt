@@ -1,0 +1,63 @@
+//! Statements by number, and what they name.
+ghost use Rattle.std.specs.Prelude.{◌≡◌, ◌++◌, map, OnOk};
+ghost use Rattle.std.specs.Option.{option_map};
+ghost use Rattle.dia_defs.specs.Scripts.{operands_of, action_operand, form_operands, statement_at};
+ghost use Rattle.dia_defs.specs.Work.{is_line};
+ghost use Rattle.script_read.specs.Statements.{numbered_in, statement_in, form_in, action_in};
+ghost use Rattle.work_order.specs.Found.{found_in};
+
+use dia_edge::NoMemory;
+use script_read::{Action, Form, Numbered, Statement};
+
+/// The statement with this number.
+pub fn find_statement<'s>(statements: &'s [Numbered], number: u32) -> Option<&'s Statement>
+    ensures { option_map found_in result ≡ statement_at (map numbered_in statements.now) number }
+{
+    match statements.split_first() {
+        None => None,
+        Some((first, rest)) => {
+            if first.line == number {
+                Some(&first.statement)
+            } else {
+                find_statement(rest, number)
+            }
+        }
+    }
+}
+
+/// The line that an action names.
+pub(crate) fn operand(action: &Action) -> u32
+    ensures { result ≡ action_operand (action_in action.now) }
+{
+    match action {
+        Action::Print { of } => *of,
+    }
+}
+
+pub(crate) fn is_line(statement: &Statement) -> bool
+    ensures { result ≡ is_line (statement_in statement.now) }
+{
+    match statement {
+        Statement::Line { .. } => true,
+        Statement::Act(_) => false,
+    }
+}
+
+fn push_form_operands(form: &Form, numbers: &mut Vec<u32>) -> Result<(), NoMemory>
+    ensures { OnOk result (numbers.new.items ≡ numbers.old.items ++ form_operands (form_in form.now)) }
+{
+    match form {
+        Form::Lines { .. } => Ok(()),
+        Form::Map { of, .. } => Ok(numbers.push(*of)?),
+    }
+}
+
+/// The lines that a statement names.
+pub(crate) fn push_operands(statement: &Statement, numbers: &mut Vec<u32>) -> Result<(), NoMemory>
+    ensures { OnOk result (numbers.new.items ≡ numbers.old.items ++ operands_of (statement_in statement.now)) }
+{
+    match statement {
+        Statement::Line { form, .. } => push_form_operands(form, numbers),
+        Statement::Act(action) => Ok(numbers.push(operand(action))?),
+    }
+}
