@@ -16,16 +16,16 @@ use Rattle.run_laws.proofs.WorkLemmas.{or_cases, has_left, has_right, has_cases,
 
 -- lists -------------------------------------------------------------------------------------------------------------
 
-every_push : {X : Type 0} (P : X → Type 0) (xs : List X) (x : X) → AllByRecursion P xs → P x → AllByRecursion P (xs ++ x ∷ [])
+pub every_push : {X : Type 0} (P : X → Type 0) (xs : List X) (x : X) → AllByRecursion P xs → P x → AllByRecursion P (xs ++ x ∷ [])
 every_push P [] x h p = (p, tt)
 every_push P (y ∷ xs) x h p = (h.0, every_push P xs x h.1 p)
 
-lines_push_line : (items : List Item) (n : ℕ) → lines_among (items ++ do_line n ∷ []) ≡ lines_among items ++ n ∷ []
+pub lines_push_line : (items : List Item) (n : ℕ) → lines_among (items ++ do_line n ∷ []) ≡ lines_among items ++ n ∷ []
 lines_push_line [] n = refl
 lines_push_line (do_line m ∷ items) n = ap (λ (xs : List ℕ). m ∷ xs) (lines_push_line items n)
 lines_push_line (do_action m ∷ items) n = lines_push_line items n
 
-lines_push_action : (items : List Item) (n : ℕ) → lines_among (items ++ do_action n ∷ []) ≡ lines_among items
+pub lines_push_action : (items : List Item) (n : ℕ) → lines_among (items ++ do_action n ∷ []) ≡ lines_among items
 lines_push_action [] n = refl
 lines_push_action (do_line m ∷ items) n = ap (λ (xs : List ℕ). m ∷ xs) (lines_push_action items n)
 lines_push_action (do_action m ∷ items) n = lines_push_action items n
@@ -65,15 +65,15 @@ goes_on script done left (do_action n) h =
 -- more lists ----------------------------------------------------------------------------------------------------------
 
 -- lines that have a list keep it
-abbrev Grows : Lists → Lists → Type 0
+abbrev pub Grows : Lists → Lists → Type 0
 Grows lists more = (m : ℕ) → IsSome (lists m) → more m ≡ lists m
 
-grows_with : (lists : Lists) (n : ℕ) (rows : List Row) → is_some (lists n) ≡ false → Grows lists (with_list lists n rows)
+pub grows_with : (lists : Lists) (n : ℕ) (rows : List Row) → is_some (lists n) ≡ false → Grows lists (with_list lists n rows)
 grows_with lists n rows none = λ m some.
     let There : ℕ → Type 0 = λ k. is_some (lists k) ≡ true in
     rw (ne_eqb m n (λ same. true≢false (sym (subst There same some) ∙ none))) refl
 
-some_there : (o : Option (List Row)) (a : List Row) → o ≡ Some a → IsSome o
+pub some_there : (o : Option (List Row)) (a : List Row) → o ≡ Some a → IsSome o
 some_there o a e = ap (λ (p : Option (List Row)). is_some p) e
 
 line_grows : (inputs : Inputs) (lists more : Lists) (form : Form) (rows : List Row) → Grows lists more → IsLine inputs lists form rows → IsLine inputs more form rows
@@ -241,7 +241,7 @@ runs_are_runs script inputs lists done left w run =
 -- chains -----------------------------------------------------------------------------------------------------------------
 
 -- what is known of a line that is done
-ready_at : (script : Script) (done : List ℕ) (items : List Item) (n : ℕ) → AllByRecursion (IsReady script done) items → has_number (lines_among items) n ≡ true → IsReadyLine script done n
+pub ready_at : (script : Script) (done : List ℕ) (items : List Item) (n : ℕ) → AllByRecursion (IsReady script done) items → has_number (lines_among items) n ≡ true → IsReadyLine script done n
 ready_at script done [] n all h = absurd (true≢false (sym h))
 ready_at script done (do_line m ∷ items) n all h = elim (or_cases (eqb m n) (has_number (lines_among items) n) h) [
   | inl e ↦ (let Ready : ℕ → Type 0 = λ k. IsReadyLine script done k in subst Ready (eqb-true m n e) all.0)
@@ -258,7 +258,7 @@ right_at script inputs lists (do_line m ∷ items) n all h = elim (or_cases (eqb
 ]
 right_at script inputs lists (do_action m ∷ items) n all h = right_at script inputs lists items n all.1 h
 
-some_statement : (x y : Statement) → Some x ≡ Some y → x ≡ y
+pub some_statement : (x y : Statement) → Some x ≡ Some y → x ≡ y
 some_statement x y e = cc
 
 operand_done : (script : Script) (done : List Item) (root m : ℕ) (op : LocalOp) (name : List ℕ) → AllByRecursion (IsReady script (lines_among done)) done
@@ -284,11 +284,11 @@ through_none : (rows : List Row) → flat_map (rows_through []) rows ≡ rows
 through_none [] = refl
 through_none (row ∷ rows) = ap (λ (rs : List Row). row ∷ rs) (through_none rows)
 
-listed_there : (o : Option (List Row)) → IsSome o → (a : List Row) × (o ≡ Some a)
+pub listed_there : (o : Option (List Row)) → IsSome o → (a : List Row) × (o ≡ Some a)
 listed_there None some = absurd (true≢false (sym some))
 listed_there (Some a) some = (a, refl)
 
-some_rows : (x y : List Row) → Some x ≡ Some y → x ≡ y
+pub some_rows : (x y : List Row) → Some x ≡ Some y → x ≡ y
 some_rows x y e = cc
 
 pub chains_make : (script : Script) (inputs : Inputs) (lists : Lists) (done left : List Item) (root : ℕ) (ops : List LocalOp) (n : ℕ)

@@ -371,10 +371,16 @@ all_in (s ∷ later) = (
       | false ↦ h
     ]
 
+-- each statement of a sound script is found by its number
+pub sound_placed : (script : Script) → IsSound nothing_known 1 script → AllByRecursion (λ (s : Numbered). statement_at script s.number ≡ Some s.statement) script
+sound_placed script sound =
+    every_map (IsPlaced script 1) (λ (s : Numbered). statement_at script s.number ≡ Some s.statement) (λ s p. p.0) script
+    (all_placed [] 1 script (follows_from nothing_known 1 script sound))
+
 pub work_order : (script : Script) → IsSound nothing_known 1 script → AreInOrder script [] (work_of script)
 work_order script sound =
     let follows = follows_from nothing_known 1 script sound in
-    let at = every_map (IsPlaced script 1) (λ (s : Numbered). statement_at script s.number ≡ Some s.statement) (λ s p. p.0) script (all_placed [] 1 script follows) in
+    let at = sound_placed script sound in
     work_in_order script script [] 1 [] (record { follows = follows; at = at }) follows
     (every_both (λ (s : Numbered). statement_at script s.number ≡ Some s.statement)
     (λ (s : Numbered). is_line s.statement ≡ true → has_number (lines_in script) s.number ≡ true) (IsIn script) (λ s p q. (p, q)) script at (all_in script))

@@ -7,7 +7,7 @@ use Rattle.dia_defs.specs.declared.kind.Kind.{Kind}
 use Rattle.dia_defs.specs.declared.kind.Kind.TheVariants.{Text}
 use Rattle.dia_defs.specs.Rows.{Row}
 use Rattle.dia_defs.specs.Values.{Expr, value_of}
-use Rattle.dia_defs.specs.Scripts.{map_op}
+use Rattle.dia_defs.specs.Scripts.{LocalOp, map_op}
 use Rattle.dia_defs.specs.Reading.{Earlier}
 use Rattle.dia_defs.specs.Sound.{IsSoundOp, op_kinds}
 use Rattle.dia_expr.specs.Exprs.{expr_in}
@@ -32,6 +32,10 @@ mapped (exprs ∷ maps) row = mapped maps (values_of exprs row)
 abbrev pub AreSoundMaps : List Kind → List (List Expr) → List Kind → Type 0
 AreSoundMaps from [] to = from ≡ to
 AreSoundMaps from (exprs ∷ maps) to = IsSoundOp from (map_op exprs) × AreSoundMaps (op_kinds from (map_op exprs)) maps to
+
+-- the local lines that the maps of a chain are
+abbrev pub ops_of : List (List Expr) → List LocalOp
+ops_of maps = map map_op maps
 
 -- the texts of the rows that a chain makes of these
 abbrev pub texts_of : List (List Expr) → List Row → List ℕ

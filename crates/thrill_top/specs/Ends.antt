@@ -1,10 +1,13 @@
 -- What the end of a call says of the shelf, and of what standard output took.
-use Rattle.std.specs.Prelude.{◌≡◌, ℕ}
+use Rattle.std.specs.Prelude.{◌≡◌, ◌⊎◌, ℕ, List, Option, None, Some, Result, Ok, Err}
+use Rattle.dia_defs.specs.declared.cause.Cause.{Cause}
+use Rattle.dia_defs.specs.Scripts as scripts
+use Rattle.dia_defs.specs.Lists.{Inputs, missing, line_too_long, input_too_long, block_of_input}
 use Rattle.dia_edge.specs.Counts.{HasRisen}
-use Rattle.dia_lines.specs.declared.input.InputErr as inputs
-use Rattle.dia_lines.specs.declared.input.InputErr.TheVariants as errors
+use Rattle.dia_edge.specs.Sinks.{TookAll, TookFront}
+use Rattle.thrill_top.specs.Faults.{fault_line}
 use Rattle.thrill_top.specs.declared.fault.TopFault.{TopFault}
-use Rattle.thrill_top.specs.declared.fault.TopFault.TheVariants.{Usage, Script, ReadFault, WriteFault, NoMemory}
+use Rattle.thrill_top.specs.declared.fault.TopFault.TheVariants.{Usage, Script, Missing, LineTooLong, InputTooLong, ReadFault, WriteFault, NoMemory}
 
 -- a fault of the shelf comes only where its count rose, and tells the count
 abbrev pub IsShelfFault : TopFault → ℕ → ℕ → Type 0
@@ -16,28 +19,48 @@ abbrev pub IsOutFault : TopFault → ℕ → ℕ → Type 0
 IsOutFault (WriteFault count) before now = HasRisen before now × (count ≡ now)
 IsOutFault _ before now = Unit {0}
 
--- for every other fault than one of standard output
-abbrev pub UnlessWrite : TopFault → Type 0 → Type 0
-UnlessWrite (WriteFault count) P = Unit {0}
-UnlessWrite _ P = P
+-- a fault of the reading of a script's bytes
+abbrev pub IsBytesFault : TopFault → Type 0
+IsBytesFault (Missing name) = Unit {0}
+IsBytesFault (ReadFault count) = Unit {0}
+IsBytesFault NoMemory = Unit {0}
+IsBytesFault _ = ⊥
 
--- the fault for an input that wasn't read is no fault of standard output, and one of the shelf only where the input had that
-abbrev pub IsInputFault : inputs.InputErr → TopFault → Type 0
-IsInputFault e (ReadFault count) = e ≡ errors.Read count
-IsInputFault e (WriteFault count) = ⊥
-IsInputFault e _ = Unit {0}
+-- where the shelf holds these inputs there is none with the name
+abbrev pub IsAbsentScript : TopFault → Inputs → List ℕ → Type 0
+IsAbsentScript (Missing absent) inputs name = (absent ≡ name) × (inputs name ≡ None)
+IsAbsentScript _ inputs name = Unit {0}
 
--- a fault that comes before anything is written
-abbrev pub IsReadingFault : TopFault → Type 0
-IsReadingFault Usage = ⊥
-IsReadingFault (WriteFault count) = ⊥
-IsReadingFault _ = Unit {0}
+-- a fault of the reading of an input
+abbrev pub IsSourceFault : TopFault → Type 0
+IsSourceFault Usage = ⊥
+IsSourceFault (Script line cause) = ⊥
+IsSourceFault (WriteFault count) = ⊥
+IsSourceFault _ = Unit {0}
+
+-- where the input with the name holds these bytes, or there is none, it can't be read for just that cause
+abbrev pub IsSourceBlock : TopFault → List ℕ → Option (List ℕ) → Type 0
+IsSourceBlock (Missing absent) name held = (absent ≡ name) × (block_of_input held ≡ Some missing)
+IsSourceBlock (LineTooLong long n) name held = (long ≡ name) × (block_of_input held ≡ Some (line_too_long n))
+IsSourceBlock (InputTooLong long) name held = (long ≡ name) × (block_of_input held ≡ Some input_too_long)
+IsSourceBlock _ name held = Unit {0}
 
 abbrev pub IsNoUsage : TopFault → Type 0
 IsNoUsage Usage = ⊥
 IsNoUsage _ = Unit {0}
 
--- what is known of a fault of a run: the counts before and after, and whether standard output took anything
+-- a fault of the work of an accepted script
+abbrev pub IsWorkFault : TopFault → Type 0
+IsWorkFault Usage = ⊥
+IsWorkFault (Script line cause) = ⊥
+IsWorkFault _ = Unit {0}
+
+-- where the script is refused
+abbrev pub IfScript : TopFault → Type 0 → Type 0
+IfScript (Script line cause) P = P
+IfScript _ P = Unit {0}
+
+-- what is known of a fault of a run: the counts before and after
 pub record IsRunFault (f : TopFault) (shelf_before shelf_now out_before out_now : ℕ) : Type 0 where
   pub shelf : IsShelfFault f shelf_before shelf_now
   pub out : IsOutFault f out_before out_now
@@ -48,7 +71,16 @@ IsScriptFault (Script line cause) = Unit {0}
 IsScriptFault NoMemory = Unit {0}
 IsScriptFault _ = ⊥
 
+-- a refusal is just the one that the bytes have
+abbrev pub IsScriptReason : TopFault → Result scripts.Script (ℕ × Cause) → Type 0
+IsScriptReason (Script line cause) reading = reading ≡ Err (line, cause)
+IsScriptReason _ reading = Unit {0}
+
 abbrev pub IsPrintFault : TopFault → Type 0
 IsPrintFault (WriteFault count) = Unit {0}
 IsPrintFault NoMemory = Unit {0}
 IsPrintFault _ = ⊥
+
+-- what standard error took for a fault: its line, or a front of that where the count rose
+abbrev pub Told : TopFault → Option (List ℕ) → Option (List ℕ) → ℕ → ℕ → Type 0
+Told fault taken now before count = TookAll taken (fault_line fault) now ⊎ (TookFront taken (fault_line fault) now × HasRisen before count)

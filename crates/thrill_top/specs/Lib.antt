@@ -1,5 +1,7 @@
+pub mod Promise
 pub mod Faults
 pub mod Words
+pub mod Ends
 pub mod Chains
 pub mod Making
-pub mod Ends
+pub mod Steps

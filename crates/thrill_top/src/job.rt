@@ -1,104 +1,50 @@
 //! Runs a script.
-ghost use Rattle.std.specs.Prelude.{◌≡◌, ◌≤◌, ℕ, List, length, OnErr, IfOk, IfErr};
-ghost use Rattle.dia_defs.specs.Pieces.{line_rows};
+ghost use Rattle.std.specs.Prelude.{◌≡◌, ℕ, List, Some, Result, OnOk, IfErr};
+ghost use Rattle.dia_defs.specs.Scripts as scripts;
+ghost use Rattle.dia_defs.specs.declared.cause.Cause.{Cause};
+ghost use Rattle.dia_defs.specs.Lists.{Inputs};
 ghost use Rattle.dia_defs.specs.Reading.{nothing_known};
 ghost use Rattle.dia_defs.specs.Sound.{IsSound};
-ghost use Rattle.dia_edge.specs.Counts.{HasRisen};
-ghost use Rattle.thrill_top.specs.Ends.{IsShelfFault, IsOutFault, UnlessWrite, IsInputFault, IsReadingFault, IsRunFault, IsScriptFault};
+ghost use Rattle.thrill_top.specs.Ends.{IsRunFault, IsWorkFault, IsScriptFault, IsScriptReason, IfScript};
+ghost use Rattle.thrill_top.specs.Making.{AreChains};
+ghost use Rattle.thrill_top.specs.Promise.{TellsInputs, EndsRun, EndsCall, fault_in};
+ghost use Rattle.thrill_top.specs.Steps.{IsMidway, GoesOn, Stops};
+ghost use Rattle.script_read.specs.Answering.{IsReason};
+ghost use Rattle.work_order.specs.Items.{items_in};
 
 use crate::fault::TopFault;
-use crate::making::chain_to_print;
-use crate::print::print_rows;
-use dia_edge::{Failed, Name, NoMemory, Shelf, Sink};
-use dia_lines::{InputErr, LineRows, read_input};
+use crate::item::do_item;
+use crate::kept::Kept;
+use crate::making::{Made, chains_of};
+use crate::read::read_bytes;
+use dia_edge::{Name, NoMemory, Shelf, Sink};
 use script_read::{ReadErr, Script, read_script};
 use std::alloc::Global;
+use work_order::{Item, work_of};
 
-// one byte more than a script may have
-const ASKED: usize = 131_329;
-
-fn new_buffer(alloc: Global) -> Result<Vec<u8>, NoMemory> {
-    Ok(vec![in alloc; 0u8; ASKED]?)
-}
-
-/// Fills the buffer from what is left, as far as it goes, and answers how many bytes there are.
-fn fill_buffer<N: Shelf>(shelf: &mut N, buffer: &mut [u8]) -> Result<usize, Failed>
-    ensures within { IfOk result (λ n. n ≤ length buffer.new) }
-    ensures rose { OnErr result (HasRisen (N.faults shelf.old) (N.faults shelf.new)) }
-    ensures counts { N.faults shelf.old ≤ N.faults shelf.new }
+/// Does items of the work, one after the other.
+fn do_items<N: Shelf, S: Sink>(
+    alloc: Global,
+    script: &Script,
+    chains: &[Made<'_>],
+    items: &[Item],
+    kept: &mut Vec<Kept>,
+    shelf: &mut N,
+    out: &mut S,
+) -> Result<(), TopFault>
+    requires midway { IsMidway script.now (items_in items.now) kept.old.items }
+    requires chains { AreChains script.now chains.now }
+    ensures ok { OnOk result (GoesOn script.now (N.holds shelf.old) (N.is_fixed shelf.old) (items_in items.now) kept.old.items (S.taken out.old) kept.new.items (S.taken out.new)) }
+    ensures refused { IfErr result (λ f. Stops script.now (N.holds shelf.old) (N.is_fixed shelf.old) (items_in items.now) kept.old.items (S.taken out.old) f (S.taken out.new)) }
+    ensures fault { IfErr result (λ f. IsRunFault f (N.faults shelf.old) (N.faults shelf.new) (S.faults out.old) (S.faults out.new)) }
+    ensures kind { IfErr result IsWorkFault }
 {
-    let mut total = 0;
-    while total < buffer.len() {
-        let (_, room) = buffer.split_at_mut(total);
-        match shelf.read(room) {
-            Ok(0) => return Ok(total),
-            Ok(n) => total += n,
-            Err(e) => return Err(e),
-        }
-    }
-    Ok(total)
-}
-
-/// The bytes of a script: all of them, or one more than a script may have.
-fn read_bytes<N: Shelf>(alloc: Global, shelf: &mut N, name: &Name) -> Result<Vec<u8>, TopFault>
-    ensures fault { IfErr result (λ f. IsShelfFault f (N.faults shelf.old) (N.faults shelf.new)) }
-    ensures reading { IfErr result IsReadingFault }
-    ensures counts { N.faults shelf.old ≤ N.faults shelf.new }
-{
-    match shelf.open(name.text()) {
-        Ok(true) => {}
-        Ok(false) => return Err(TopFault::Missing { name: name.copy()? }),
-        Err(Failed) => {
-            return Err(TopFault::ReadFault {
-                count: shelf.fault_count(),
-            });
-        }
-    }
-    let mut bytes = new_buffer(alloc)?;
-    match fill_buffer(shelf, bytes.as_mut_slice()) {
-        Ok(total) => {
-            bytes.truncate(total);
-            Ok(bytes)
-        }
-        Err(Failed) => Err(TopFault::ReadFault {
-            count: shelf.fault_count(),
-        }),
-    }
-}
-
-/// The fault for an input that wasn't read.
-fn input_fault(e: InputErr, name: &Name) -> TopFault
-    ensures input { IsInputFault e result }
-    ensures reading { IsReadingFault result }
-{
-    match e {
-        InputErr::Read { count } => TopFault::ReadFault { count },
-        InputErr::NoMemory => TopFault::NoMemory,
-        InputErr::Missing => match name.copy() {
-            Ok(name) => TopFault::Missing { name },
-            Err(NoMemory) => TopFault::NoMemory,
+    match items.split_first() {
+        None => Ok(()),
+        Some((item, rest)) => match do_item(alloc, script, chains, *item, kept, shelf, out) {
+            Ok(()) => do_items(alloc, script, chains, rest, kept, shelf, out),
+            Err(f) => Err(f),
         },
-        InputErr::LineTooLong { line } => match name.copy() {
-            Ok(name) => TopFault::LineTooLong { name, line },
-            Err(NoMemory) => TopFault::NoMemory,
-        },
-        InputErr::InputTooLong => match name.copy() {
-            Ok(name) => TopFault::InputTooLong { name },
-            Err(NoMemory) => TopFault::NoMemory,
-        },
-    }
-}
-
-/// Reads the lines of an input.
-fn read_source<N: Shelf>(alloc: Global, shelf: &mut N, name: &Name) -> Result<LineRows, TopFault>
-    ensures lines { IfOk result (λ rows. (bytes : List ℕ) × (rows ≡ line_rows bytes)) }
-    ensures fault { IfErr result (λ f. IsShelfFault f (N.faults shelf.old) (N.faults shelf.new)) }
-    ensures reading { IfErr result IsReadingFault }
-    ensures counts { N.faults shelf.old ≤ N.faults shelf.new }
-{
-    match read_input(alloc, shelf, name) {
-        Ok(rows) => Ok(rows),
-        Err(e) => Err(input_fault(e, name)),
     }
 }
 
@@ -110,27 +56,34 @@ fn run_accepted<N: Shelf, S: Sink>(
     out: &mut S,
 ) -> Result<(), TopFault>
     requires { IsSound nothing_known 1 script.now }
+    ensures ends { (inputs : Inputs) (start : List ℕ) → TellsInputs (N.holds shelf.old) (N.is_fixed shelf.old) inputs → S.taken out.old ≡ Some start
+        → EndsRun script.now inputs start (fault_in result) (S.taken out.new) }
     ensures fault { IfErr result (λ f. IsRunFault f (N.faults shelf.old) (N.faults shelf.new) (S.faults out.old) (S.faults out.new)) }
-    ensures untouched { IfErr result (λ f. UnlessWrite f (out.new ≡ out.old)) }
-    ensures counts { N.faults shelf.old ≤ N.faults shelf.new }
+    ensures kind { IfErr result IsWorkFault }
 {
-    let made = match chain_to_print(alloc, script) {
-        Ok(Some(made)) => made,
-        Ok(None) => return Ok(()),
+    let chains = match chains_of(alloc, script) {
+        Ok(chains) => chains,
         Err(NoMemory) => return Err(TopFault::NoMemory),
     };
-    let rows = match read_source(alloc, shelf, made.input) {
-        Ok(rows) => rows,
-        Err(f) => return Err(f),
+    let items = match work_of(alloc, script) {
+        Ok(items) => items,
+        Err(NoMemory) => return Err(TopFault::NoMemory),
     };
-    match print_rows(alloc, &rows, made.maps.as_slice(), out) {
-        Ok(()) => Ok(()),
-        Err(f) => Err(f),
-    }
+    let mut kept = Vec::new(alloc);
+    do_items(
+        alloc,
+        script,
+        chains.as_slice(),
+        items.as_slice(),
+        &mut kept,
+        shelf,
+        out,
+    )
 }
 
 fn script_fault(e: ReadErr) -> TopFault
-    ensures { IsScriptFault result }
+    ensures kind { IsScriptFault result }
+    ensures reason { (reading : Result scripts.Script (ℕ × Cause)) → IsReason e reading → IsScriptReason result reading }
 {
     match e {
         ReadErr::Bad { line, cause } => TopFault::Script { line, cause },
@@ -145,8 +98,10 @@ pub(crate) fn run_script<N: Shelf, S: Sink>(
     shelf: &mut N,
     out: &mut S,
 ) -> Result<(), TopFault>
+    ensures ends { (inputs : Inputs) (start : List ℕ) → TellsInputs (N.holds shelf.old) (N.is_fixed shelf.old) inputs → S.taken out.old ≡ Some start
+        → EndsCall inputs name.now start (fault_in result) (S.taken out.new) }
     ensures fault { IfErr result (λ f. IsRunFault f (N.faults shelf.old) (N.faults shelf.new) (S.faults out.old) (S.faults out.new)) }
-    ensures untouched { IfErr result (λ f. UnlessWrite f (out.new ≡ out.old)) }
+    ensures before { IfErr result (λ f. IfScript f (out.new ≡ out.old)) }
 {
     let bytes = match read_bytes(alloc, shelf, name) {
         Ok(bytes) => bytes,

@@ -6,9 +6,12 @@
 
 mod chain;
 mod fault;
+mod item;
 mod job;
+mod kept;
 mod making;
 mod print;
+mod read;
 mod top;
 mod words;
 

@@ -7,7 +7,7 @@ ghost use Rattle.dia_edge.specs.Counts.{HasRisen};
 ghost use Rattle.dia_edge.specs.Sinks.{TookAll, TookFront};
 ghost use Rattle.text_out.specs.Carrying.{CarriesOn};
 ghost use Rattle.thrill_top.specs.Chains.{maps_in, texts_of, AreSoundMaps};
-ghost use Rattle.thrill_top.specs.Ends.{IsOutFault, UnlessWrite, IsPrintFault};
+ghost use Rattle.thrill_top.specs.Ends.{IsOutFault, IsPrintFault};
 
 use crate::chain::push_through;
 use crate::fault::TopFault;
@@ -65,9 +65,10 @@ pub(crate) fn print_rows<S: Sink>(
     requires lines { (bytes : List ℕ) × (rows.now ≡ line_rows bytes) }
     requires sound { (to : List Kind) × AreSoundMaps (Text ∷ []) (maps_in maps.now) to }
     ensures ok { OnOk result (TookAll (S.taken out.old) (texts_of (maps_in maps.now) rows.now) (S.taken out.new)) }
+    ensures front { OnErr result (TookFront (S.taken out.old) (texts_of (maps_in maps.now) rows.now) (S.taken out.new)) }
     ensures fault { IfErr result (λ f. IsOutFault f (S.faults out.old) (S.faults out.new)) }
-    ensures print { IfErr result IsPrintFault }
-    ensures untouched { IfErr result (λ f. UnlessWrite f (out.new ≡ out.old)) }
+    ensures kind { IfErr result IsPrintFault }
+    ensures counts { S.faults out.old ≤ S.faults out.new }
 {
     let mut rooms = rooms_for(alloc, maps.len())?;
     let mut buffer = OutBuffer::new(alloc)?;

@@ -1,8 +1,12 @@
 //! The top call.
-ghost use Rattle.std.specs.Prelude.{◌≡◌, ◌≢◌, ◌↔◌, None, Some, MatchOption};
+ghost use Rattle.std.specs.Prelude.{◌≡◌, ◌≢◌, ◌↔◌, ◌⊎◌, ℕ, List, None, Some, MatchOption};
+ghost use Rattle.dia_defs.specs.Scripts.{Script};
+ghost use Rattle.dia_defs.specs.Lists.{Inputs};
+ghost use Rattle.dia_defs.specs.declared.cause.Cause.{Cause};
 ghost use Rattle.dia_edge.specs.Counts.{HasRisen};
-ghost use Rattle.thrill_top.specs.Ends.{IsRunFault, UnlessWrite};
+ghost use Rattle.thrill_top.specs.Ends.{Told};
 ghost use Rattle.thrill_top.specs.Faults.{fault_status};
+ghost use Rattle.thrill_top.specs.Promise.{TellsInputs, EndsCall, IsReadable, IsRefusedScript, IsRefusedWith, IsAbsentWith, IsExcused};
 ghost use Rattle.thrill_top.specs.Words.{script_of};
 
 use crate::fault::{TopFault, put_fault};
@@ -26,6 +30,7 @@ pub struct TopEnd<D> {
 fn end_with<E: Sink, D: Disk>(fault: TopFault, err: &mut E, disk: D) -> TopEnd<D>
     ensures status { result.status ≡ fault_status fault }
     ensures fault { result.fault ≡ Some fault }
+    ensures told { Told fault (E.taken err.old) (E.taken err.new) (E.faults err.old) (E.faults err.new) }
     ensures disk { result.disk ≡ disk }
 {
     let _ = put_fault(&fault, err);
@@ -38,7 +43,7 @@ fn end_with<E: Sink, D: Disk>(fault: TopFault, err: &mut E, disk: D) -> TopEnd<D
 
 /// Does all that the program does: `run SCRIPT` runs the script, and any other words are a faulty command line.
 ///
-/// The script and the inputs are read from the shelf, the texts of its action go to `out`, and where the status isn't 0
+/// The script and the inputs are read from the shelf, the texts of its actions go to `out`, and where the status isn't 0
 /// the fault's line goes to `err`. For now a script has one action at most, the disk isn't used and no worker waits at
 /// the gate.
 pub fn thrill_call<N: Shelf, S: Sink, E: Sink, D: Disk + Send, G: Gate + Sync>(
@@ -50,14 +55,35 @@ pub fn thrill_call<N: Shelf, S: Sink, E: Sink, D: Disk + Send, G: Gate + Sync>(
     disk: D,
     _gate: &G,
 ) -> TopEnd<D>
+    // Where the shelf tells what it holds and is fixed, and `out` tells what it took: at status 0 there is one list for
+    // each line that an action needs and for no other, each a result of its definition on the lists that it names, and
+    // `out` took exactly the texts of the script's actions on these lists. At each other status the end is the one that
+    // the fault tells: `out` took exactly the texts of the actions before, or at 8, 9 and 12 a front of such texts.
+    ensures run { (inputs : Inputs) (name start : List ℕ) → TellsInputs (N.holds shelf.old) (N.is_fixed shelf.old) inputs → script_of words.now ≡ Some name
+        → S.taken out.old ≡ Some start → EndsCall inputs name start result.fault (S.taken out.new) }
+    // There, too: a script that is refused ends the call just so, and one that isn't there, want of memory and faults
+    // of the shelf apart.
+    ensures refused { (inputs : Inputs) (name start : List ℕ) (line : ℕ) (cause : Cause) → TellsInputs (N.holds shelf.old) (N.is_fixed shelf.old) inputs
+        → script_of words.now ≡ Some name → S.taken out.old ≡ Some start → IsRefusedScript inputs name line cause
+        → IsRefusedWith line cause result.fault ⊎ IsExcused result.status }
+    ensures absent { (inputs : Inputs) (name start : List ℕ) → TellsInputs (N.holds shelf.old) (N.is_fixed shelf.old) inputs
+        → script_of words.now ≡ Some name → S.taken out.old ≡ Some start → inputs name ≡ None
+        → IsAbsentWith name result.fault ⊎ IsExcused result.status }
+    // And where the script is accepted, each input that it needs can be read, and no count rises, the status is 0, or 12
+    // for want of memory.
+    ensures complete { (inputs : Inputs) (name start : List ℕ) (script : Script) → TellsInputs (N.holds shelf.old) (N.is_fixed shelf.old) inputs
+        → script_of words.now ≡ Some name → S.taken out.old ≡ Some start → IsReadable inputs name script
+        → (HasRisen (N.faults shelf.old) (N.faults shelf.new) → ⊥) → (HasRisen (S.faults out.old) (S.faults out.new) → ⊥)
+        → (result.status ≡ 0) ⊎ (result.status ≡ 12) }
     // Status 2 comes exactly where the words mean nothing.
     ensures usage { (result.status ≡ 2) ↔ (script_of words.now ≡ None) }
     // 8 and 9 come only where the count of the shelf or of `out` rose in this call.
     ensures read { result.status ≡ 8 → HasRisen (N.faults shelf.old) (N.faults shelf.new) }
     ensures write { result.status ≡ 9 → HasRisen (S.faults out.old) (S.faults out.new) }
-    // But for 0 and 9 `out` took nothing.
-    ensures untouched { result.status ≢ 0 → result.status ≢ 9 → out.new ≡ out.old }
-    ensures silent { result.status ≡ 0 → err.new ≡ err.old }
+    // At 2 and 3 `out` took nothing, whatever it tells.
+    ensures untouched { (result.status ≡ 2) ⊎ (result.status ≡ 3) → out.new ≡ out.old }
+    // `err` takes nothing at 0, else the fault's line, or a front of it where its count rose.
+    ensures told { MatchOption result.fault (err.new ≡ err.old) (λ f. Told f (E.taken err.old) (E.taken err.new) (E.faults err.old) (E.faults err.new)) }
     ensures fault { MatchOption result.fault (result.status ≡ 0) (λ f. result.status ≡ fault_status f) }
     ensures disk { result.disk ≡ disk }
 {

@@ -26,7 +26,7 @@ pub fn find_statement<'s>(statements: &'s [Numbered], number: u32) -> Option<&'s
 }
 
 /// The line that an action names.
-pub(crate) fn operand(action: &Action) -> u32
+pub fn operand(action: &Action) -> u32
     ensures { result ≡ action_operand (action_in action.now) }
 {
     match action {

@@ -1,0 +1,103 @@
+-- The bytes of a script.
+use Rattle.std.proofs.Common.{◌≡◌, ℕ, zero, suc, ◌+◌, ◌-◌, ◌<◌, ◌≤◌, Bool, true, false, ◌||◌, cond, ltb, List, [], ◌∷◌, ◌++◌, length, take, drop, Option, None, Some, Result, Ok, Err, IfOk, IfErr, IfSome, IsSome, refl, sym, ap, ◌∙◌, subst, arith, append_assoc, length-append, length-take}
+use Rattle.std.proofs.lemmas.Bool.{ltb-true, ltb-false, lt-ltb, true≢false}
+use Rattle.std.proofs.lemmas.List.{take_all}
+use Rattle.std.proofs.Math.Seq.{take-append-add}
+use Rattle.dia_defs.specs.declared.cause.Cause.{Cause}
+use Rattle.dia_defs.specs.declared.cause.Cause.TheVariants.{ScriptLong}
+use Rattle.dia_defs.specs.Scripts.{Script}
+use Rattle.dia_defs.specs.Pieces.{lines_of}
+use Rattle.dia_defs.specs.Reading.{reading_of, reading_from, nothing_known, script_limit, script_lines_limit}
+use Rattle.dia_defs.specs.Lists.{Inputs}
+use Rattle.dia_edge.specs.Shelves.{Holdings, GivesFront, IsOpened, IsAtEnd}
+
+-- one piece more
+pub gives_more : (all left now : Option (List ℕ)) (seen piece : List ℕ) → GivesFront all seen left → GivesFront left piece now → GivesFront all (seen ++ piece) now
+gives_more None left now seen piece p q = tt
+gives_more (Some bytes) left now seen piece p q =
+    let Gives : Option (List ℕ) → Type 0 = λ o. GivesFront o piece now in
+    let r = subst Gives p.2 q in
+    (r.0, p.1 ∙ ap (λ (xs : List ℕ). seen ++ xs) r.1 ∙ sym (append_assoc seen piece r.0), r.2)
+
+take_front : (xs ys : List ℕ) → take (length xs) (xs ++ ys) ≡ xs
+take_front [] ys = refl
+take_front (x ∷ xs) ys = ap (λ (zs : List ℕ). x ∷ zs) (take_front xs ys)
+
+take-append-past : (n : ℕ) (xs ys : List ℕ) → length xs ≤ n → take n (xs ++ ys) ≡ xs ++ take (n - length xs) ys
+take-append-past n xs ys low =
+    let parts : n ≡ length xs + (n - length xs) = omega arith in
+    ap (λ (m : ℕ). take m (xs ++ ys)) parts ∙ take-append-add xs ys (n - length xs)
+
+-- the front that a buffer is of its memory
+pub whole_front : (xs ys : List ℕ) (n : ℕ) → n ≡ length xs → take n (xs ++ ys) ≡ xs
+whole_front xs ys n long = ap (λ (k : ℕ). take k (xs ++ ys)) long ∙ take_front xs ys
+
+-- what is in the buffer behind a read
+pub buffer_more : (all left now : Option (List ℕ)) (buffer front room : List ℕ) (total n : ℕ) → GivesFront all (take total buffer) left → front ≡ take total buffer
+    → length front ≡ total → GivesFront left (take n room) now → GivesFront all (take (total + n) (front ++ room)) now
+buffer_more all left now buffer front room total n before is long h =
+    let Gives : List ℕ → Type 0 = λ xs. GivesFront all xs now in
+    let Before : List ℕ → Type 0 = λ xs. GivesFront all xs left in
+    let behind : total + n - length front ≡ n = omega (arith, long) in
+    let whole : take (total + n) (front ++ room) ≡ front ++ take n room =
+    take-append-past (total + n) front room (omega (arith, long)) ∙ ap (λ (k : ℕ). front ++ take k room) behind in
+    subst Gives (sym whole) (gives_more all left now front (take n room) (subst Before (sym is) before) h)
+
+-- the buffer is full
+pub buffer_full : (all left : Option (List ℕ)) (buffer : List ℕ) (total : ℕ) → GivesFront all (take total buffer) left → length buffer ≤ total
+    → IfSome all (λ bytes. take total buffer ≡ take (length buffer) bytes)
+buffer_full None left buffer total h full = tt
+buffer_full (Some bytes) left buffer total h full =
+    let whole = take_all total buffer full in
+    whole ∙ sym (ap (take (length buffer)) (h.1 ∙ ap (λ (xs : List ℕ). xs ++ h.0) whole) ∙ take_front buffer h.0)
+
+-- nothing is left
+pub buffer_all : (all left : Option (List ℕ)) (buffer : List ℕ) (total : ℕ) → GivesFront all (take total buffer) left → total ≤ length buffer → IsAtEnd left
+    → IfSome all (λ bytes. take total buffer ≡ take (length buffer) bytes)
+buffer_all None left buffer total h within end = tt
+buffer_all (Some bytes) left buffer total h within end =
+    let End : Option (List ℕ) → Type 0 = IsAtEnd in
+    let none : h.0 ≡ [] = subst End h.2 end in
+    let all : bytes ≡ take total buffer = h.1 ∙ ap (λ (xs : List ℕ). take total buffer ++ xs) none ∙ nothing_more (take total buffer) in
+    let short : length bytes ≤ length buffer = (let long = ap length all ∙ length-take total buffer in omega (arith, long)) in
+    sym all ∙ sym (take_all (length buffer) bytes short)
+  where
+    nothing_more : (xs : List ℕ) → xs ++ [] ≡ xs
+    nothing_more [] = refl
+    nothing_more (x ∷ xs) = ap (λ (zs : List ℕ). x ∷ zs) (nothing_more xs)
+
+pub asked_bytes : (o : Option (List ℕ)) (buffer items : List ℕ) (n asked : ℕ) → IfSome o (λ all. take n buffer ≡ take (length buffer) all)
+    → items ≡ take n buffer → length buffer ≡ asked → IfSome o (λ all. items ≡ take asked all)
+asked_bytes None buffer items n asked h is long = tt
+asked_bytes (Some all) buffer items n asked h is long = is ∙ h ∙ ap (λ (k : ℕ). take k all) long
+
+some_bytes : (o : Option (List ℕ)) → IsSome o → (all : List ℕ) × (o ≡ Some all)
+some_bytes None some = absurd (true≢false (sym some))
+some_bytes (Some all) some = (all, refl)
+
+-- what was opened are the input's bytes
+pub opened_bytes : {V E : Type 0} (r : Result V E) (P : V → List ℕ → Type 0) (holds : Option Holdings) (left : Option (List ℕ)) (inputs : Inputs) (name : List ℕ)
+    → holds ≡ Some inputs → IsOpened holds name left → IfOk r (λ v. IfSome left (λ all. P v all))
+    → IfOk r (λ v. (all : List ℕ) × (inputs name ≡ Some all) × P v all)
+opened_bytes (Err e) P holds left inputs name is opened h = tt
+opened_bytes (Ok v) P holds left inputs name is opened h =
+    let Opened : Option Holdings → Type 0 = λ o. IsOpened o name left in
+    let o = subst Opened is opened in
+    let all = some_bytes (inputs name) o.0 in
+    let Left : Option (List ℕ) → Type 0 = λ l. IfSome l (λ bytes. P v bytes) in
+    (all.0, all.1, subst Left (o.1 ∙ all.1) h)
+
+-- one byte more than a script may have is enough
+long_reading : (bytes : List ℕ) → script_limit < length bytes → reading_of bytes ≡ Err (script_lines_limit + 1, ScriptLong)
+unfolding reading_of
+long_reading bytes long = rw (lt-ltb script_limit (length bytes) long) refl
+
+pub reading_cut : (bytes : List ℕ) (asked : ℕ) → asked ≡ script_limit + 1 → reading_of (take asked bytes) ≡ reading_of bytes
+reading_cut bytes asked is =
+    elim (ltb (length bytes) asked) as (λ t. ltb (length bytes) asked ≡ t → reading_of (take asked bytes) ≡ reading_of bytes) [
+      | true ↦ λ e. ap reading_of (take_all asked bytes (let less = ltb-true (length bytes) asked e in omega (arith, less)))
+      | false ↦ λ e.
+        let low = ltb-false (length bytes) asked e in
+        let cut : length (take asked bytes) ≡ asked = (let long = length-take asked bytes in omega (arith, long, low)) in
+        long_reading (take asked bytes) (omega (arith, cut, is)) ∙ sym (long_reading bytes (omega (arith, low, is)))
+    ] refl

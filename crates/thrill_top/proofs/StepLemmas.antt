@@ -1,0 +1,557 @@
+-- How each item of the work goes on.
+use Rattle.std.proofs.Common.{◌≡◌, ℕ, zero, suc, ◌+◌, ◌^◌, ◌<◌, ◌≤◌, Bool, true, false, ◌||◌, cond, eqb, ltb, List, [], ◌∷◌, ◌++◌, length, map, take, drop, Option, None, Some, is_some, IsSome, IfSome, Result, Ok, Err, OnOk, OnErr, IfErr, find, refl, sym, ap, ◌∙◌, subst, arith, inl, inr, append_assoc, append-nil, length-append}
+use Rattle.std.specs.Option.{option_map}
+use Rattle.std.specs.List.{AllByRecursion, flat_map}
+use Rattle.std.proofs.lemmas.Bool.{or_left, or_right, true≢false, eqb-true, eq-eqb, ne_eqb, ltb-false, ltb-true}
+use Rattle.std.proofs.lemmas.List.Concat.{flat_map-append}
+use Rattle.dia_defs.specs.declared.kind.Kind.{Kind}
+use Rattle.dia_defs.specs.declared.kind.Kind.TheVariants.{Text}
+use Rattle.dia_defs.specs.Rows.{Row}
+use Rattle.dia_defs.specs.Pieces.{last_piece, pieces_from, lines_of, line_rows, line_row, line_feed}
+use Rattle.dia_defs.specs.Values.{Expr}
+use Rattle.dia_defs.specs.Scripts.{LocalOp, map_op, Form, lines_form, generate_form, local_form, form_operands, Action, print_action, action_operand, Statement, line, act, Script, statement_at}
+use Rattle.dia_defs.specs.Lists.{Inputs, Lists, IsLine, Block, missing, line_too_long, input_too_long, longest_input, most_rows, block_of_input, block_of_long_line, long_line, block_of_form, block_of_action, rows_in, rows_made, rows_through}
+use Rattle.dia_defs.specs.Work.{Item, do_line, do_action, has_number, work_of}
+use Rattle.dia_defs.specs.Runs.{IsRun, block_of, block_of_statement, action_text, run_texts, row_text}
+use Rattle.dia_edge.specs.Shelves.{Holdings}
+use Rattle.dia_edge.specs.Sinks.{TookAll, TookFront}
+use Rattle.dia_lines.specs.Inputs.{IsInput}
+use Rattle.script_read.specs.declared.statement.Action as actions
+use Rattle.script_read.specs.declared.statement.Action.TheVariants.{Print}
+use Rattle.script_read.specs.Statements.{action_in}
+use Rattle.run_laws.specs.Order.{lines_among, IsReadyLine, IsReadyAction, InWork}
+use Rattle.run_laws.specs.Laws.{IsRunOf, texts_among, with_list, no_lists, IsChain}
+use Rattle.run_laws.proofs.WorkLemmas.{or_cases, has_cases, has_left, is_one, every_map}
+use Rattle.run_laws.proofs.RunLemmas.{begins, goes_on, line_goes_on, action_goes_on, runs_are_runs, roots_are_done, chains_make, ready_at, grows_with, lines_push_line, lines_push_action, every_push, some_there, listed_there, some_rows, some_statement}
+use Rattle.thrill_top.specs.declared.kept.Kept.{Kept}
+use Rattle.thrill_top.specs.declared.making.Made.{Made}
+use Rattle.thrill_top.specs.declared.fault.TopFault.{TopFault}
+use Rattle.thrill_top.specs.declared.fault.TopFault.TheVariants as faults
+use Rattle.thrill_top.specs.Chains.{maps_in, mapped, values_of, ops_of, texts_of, AreSoundMaps}
+use Rattle.thrill_top.specs.Ends.{IsSourceFault, IsSourceBlock, IsPrintFault}
+use Rattle.thrill_top.specs.Making.{IsRooted, IsMade, AreChains, with_number}
+use Rattle.thrill_top.specs.Promise.{TellsInputs, IsDone, IsStopped, IsCutOff, RunEnd, EndsRun, fault_in}
+use Rattle.thrill_top.specs.Steps.{kept_at, AreLines, AreKept, IsMidway, IsListed, IsAt, GoesOn, Stops, KeepsOn}
+use Rattle.thrill_top.proofs.MakingLemmas.{IsFound, chain_found}
+
+pub OnOk-map : {T E : Type 0} (r : Result T E) (P Q : Type 0) → (P → Q) → OnOk r P → OnOk r Q
+OnOk-map (Ok t) P Q f p = f p
+OnOk-map (Err e) P Q f p = p
+
+pub OnOk-all : {T E : Type 0} (r : Result T E) (P : Type 0) → P → OnOk r P
+OnOk-all (Ok t) P p = p
+OnOk-all (Err e) P p = tt
+
+pub IfErr-map : {T E : Type 0} (r : Result T E) (P Q : E → Type 0) → ((e : E) → P e → Q e) → IfErr r P → IfErr r Q
+IfErr-map (Ok t) P Q f p = p
+IfErr-map (Err e) P Q f p = f e p
+
+pub found_same : (o : Option Made) (x y : Made) → o ≡ Some x → o ≡ Some y → x ≡ y
+found_same o x y p q = some_made x y (sym p ∙ q)
+  where
+    some_made : (a b : Made) → Some a ≡ Some b → a ≡ b
+    some_made a b e = cc
+
+pub rows_same : (o : Option (List Row)) (x y : List Row) → o ≡ Some x → o ≡ Some y → x ≡ y
+rows_same o x y p q = some_rows x y (sym p ∙ q)
+
+pub IfErr-map2 : {T E : Type 0} (r : Result T E) (P : Type 0) (K Q : E → Type 0) → ((e : E) → P → K e → Q e) → OnErr r P → IfErr r K → IfErr r Q
+IfErr-map2 (Ok t) P K Q f p k = k
+IfErr-map2 (Err e) P K Q f p k = f e p k
+
+mapped_length : {A B : Type 0} (f : A → B) (xs : List A) → length (map f xs) ≡ length xs
+mapped_length f [] = refl
+mapped_length f (x ∷ xs) = ap suc (mapped_length f xs)
+
+-- what is kept --------------------------------------------------------------------------------------------------------
+
+pub kept_lines : (kept : List Kept) (n : ℕ) (rows : List Row) → AllByRecursion AreLines kept → kept_at kept n ≡ Some rows → (bytes : List ℕ) × (rows ≡ line_rows bytes)
+kept_lines [] n rows all is = let wrong : ⊥ = cc in absurd wrong
+kept_lines (k ∷ kept) n rows all is =
+    elim (eqb k.number n) as (λ t. option_map (λ (x : Kept). x.rows) (cond t (Some k) (find (λ (x : Kept). eqb x.number n) kept)) ≡ Some rows → (bytes : List ℕ) × (rows ≡ line_rows bytes)) [
+      | true ↦ λ e. (all.0.0, sym (some_rows k.rows rows e) ∙ all.0.1)
+      | false ↦ λ e. kept_lines kept n rows all.1 e
+    ] is
+
+pub kept_listed : (lists : Lists) (kept : List Kept) (n : ℕ) (rows : List Row) → AllByRecursion (IsListed lists) kept → kept_at kept n ≡ Some rows
+    → (lists n ≡ Some rows) × (length rows ≤ longest_input)
+kept_listed lists [] n rows all is = let wrong : ⊥ = cc in absurd wrong
+kept_listed lists (k ∷ kept) n rows all is =
+    elim (eqb k.number n) as (λ t. eqb k.number n ≡ t → option_map (λ (x : Kept). x.rows) (cond t (Some k) (find (λ (x : Kept). eqb x.number n) kept)) ≡ Some rows
+        → (lists n ≡ Some rows) × (length rows ≤ longest_input)) [
+      | true ↦ λ same e.
+        let is_rows : k.rows ≡ rows = some_rows k.rows rows e in
+        let At : ℕ → Type 0 = λ m. lists m ≡ Some k.rows in
+        let Short : List Row → Type 0 = λ rs. length rs ≤ longest_input in
+        (subst At (eqb-true k.number n same) all.0.0 ∙ ap Some is_rows, subst Short is_rows all.0.1)
+      | false ↦ λ other e. kept_listed lists kept n rows all.1 e
+    ] refl is
+
+kept_push_old : (kept : List Kept) (k : Kept) (n : ℕ) → IsSome (kept_at kept n) → IsSome (kept_at (kept ++ k ∷ []) n)
+kept_push_old [] k n some = absurd (true≢false (sym some))
+kept_push_old (x ∷ kept) k n some =
+    elim (eqb x.number n) as (λ t. IsSome (option_map (λ (y : Kept). y.rows) (cond t (Some x) (find (λ (y : Kept). eqb y.number n) kept)))
+        → IsSome (option_map (λ (y : Kept). y.rows) (cond t (Some x) (find (λ (y : Kept). eqb y.number n) (kept ++ k ∷ []))))) [
+      | true ↦ λ e. refl
+      | false ↦ λ e. kept_push_old kept k n e
+    ] some
+
+kept_push_new : (kept : List Kept) (k : Kept) (n : ℕ) → k.number ≡ n → IsSome (kept_at (kept ++ k ∷ []) n)
+kept_push_new [] k n is = rw (eq-eqb k.number n is) refl
+kept_push_new (x ∷ kept) k n is =
+    elim (eqb x.number n) as (λ t. IsSome (option_map (λ (y : Kept). y.rows) (cond t (Some x) (find (λ (y : Kept). eqb y.number n) (kept ++ k ∷ []))))) [
+      | true ↦ refl
+      | false ↦ kept_push_new kept k n is
+    ]
+
+-- the next items ------------------------------------------------------------------------------------------------------
+
+pub midway_next : (script : Script) (item : Item) (items : List Item) (kept now : List Kept) → IsMidway script (item ∷ items) kept → KeepsOn script (item ∷ []) kept now
+    → IsMidway script items now
+midway_next script item items kept now m keeps = record {
+  done = m.done ++ item ∷ [];
+  left = m.left;
+  work = goes_on script m.done (items ++ m.left) item m.work;
+  are = keeps m.done (items ++ m.left) m.work m.are;
+}
+
+pub midway_first : (script : Script) (item : Item) (items : List Item) (kept : List Kept) → IsMidway script (item ∷ items) kept → IsMidway script (item ∷ []) kept
+midway_first script item items kept m = record { done = m.done; left = items ++ m.left; work = m.work; are = m.are }
+
+pub goes_both : (script : Script) (holds then : Option Holdings) (fixed after : Bool) (item : Item) (items : List Item) (kept mid now : List Kept) (taken between last : Option (List ℕ))
+    → (fixed ≡ true → (after ≡ true) × (then ≡ holds)) → GoesOn script holds fixed (item ∷ []) kept taken mid between
+    → GoesOn script then after items mid between now last → GoesOn script holds fixed (item ∷ items) kept taken now last
+goes_both script holds then fixed after item items kept mid now taken between last same first rest = λ inputs start done left tells work at.
+    let s = same tells.1 in
+    let w = goes_on script done (items ++ left) item work in
+    let At : List Item → Type 0 = λ xs. IsAt script inputs start xs now last in
+    subst At (append_assoc done (item ∷ []) items)
+    (rest inputs start (done ++ item ∷ []) left (s.1 ∙ tells.0, s.0) w (first inputs start done (items ++ left) tells work at))
+
+pub stops_later : (script : Script) (holds then : Option Holdings) (fixed after : Bool) (item : Item) (items : List Item) (kept mid : List Kept) (taken between last : Option (List ℕ)) (f : TopFault)
+    → (fixed ≡ true → (after ≡ true) × (then ≡ holds)) → GoesOn script holds fixed (item ∷ []) kept taken mid between
+    → Stops script then after items mid between f last → Stops script holds fixed (item ∷ items) kept taken f last
+stops_later script holds then fixed after item items kept mid taken between last f same first rest = λ inputs start done left tells work at.
+    let s = same tells.1 in
+    rest inputs start (done ++ item ∷ []) left (s.1 ∙ tells.0, s.0) (goes_on script done (items ++ left) item work) (first inputs start done (items ++ left) tells work at)
+
+pub stops_first : (script : Script) (holds : Option Holdings) (fixed : Bool) (item : Item) (items : List Item) (kept : List Kept) (taken last : Option (List ℕ)) (f : TopFault)
+    → Stops script holds fixed (item ∷ []) kept taken f last → Stops script holds fixed (item ∷ items) kept taken f last
+stops_first script holds fixed item items kept taken last f first = λ inputs start done left tells work at. first inputs start done (items ++ left) tells work at
+
+-- ends ----------------------------------------------------------------------------------------------------------------
+
+-- the items done, and nothing of the next one
+cut_here : (script : Script) (inputs : Inputs) (start : List ℕ) (done left : List Item) (kept : List Kept) (taken : Option (List ℕ)) → InWork script done left
+    → (at : IsAt script inputs start done kept taken) → IsCutOff script inputs (texts_among script at.lists done)
+cut_here script inputs start done left kept taken work at =
+    let r = runs_are_runs script inputs at.lists done left work at.run in
+    let texts = texts_among script at.lists done in
+    record { count = length done; all = texts; done = record { lists = at.lists; run = r.0; texts = sym r.1 }; rest = []; parts = sym (append-nil texts) }
+
+-- a fault that isn't the line's own
+abbrev pub IsDeviceFault : TopFault → Type 0
+IsDeviceFault (faults.ReadFault count) = Unit {0}
+IsDeviceFault (faults.WriteFault count) = Unit {0}
+IsDeviceFault faults.NoMemory = Unit {0}
+IsDeviceFault _ = ⊥
+
+device_end : (script : Script) (inputs : Inputs) (f : TopFault) (took : List ℕ) → IsDeviceFault f → IsCutOff script inputs took → RunEnd script inputs (Some f) took
+device_end script inputs (faults.ReadFault count) took is cut = cut
+device_end script inputs (faults.WriteFault count) took is cut = cut
+device_end script inputs faults.NoMemory took is cut = cut
+device_end script inputs faults.Usage took is cut = absurd is
+device_end script inputs (faults.Script n cause) took is cut = absurd is
+device_end script inputs (faults.Missing name) took is cut = absurd is
+device_end script inputs (faults.LineTooLong name n) took is cut = absurd is
+device_end script inputs (faults.InputTooLong name) took is cut = absurd is
+
+stops_here : (script : Script) (holds : Option Holdings) (fixed : Bool) (items : List Item) (kept : List Kept) (taken : Option (List ℕ)) (f : TopFault) → IsDeviceFault f
+    → Stops script holds fixed items kept taken f taken
+stops_here script holds fixed items kept taken f is = λ inputs start done left tells work at. record {
+  took = texts_among script at.lists done;
+  since = at.since;
+  end = device_end script inputs f (texts_among script at.lists done) is (cut_here script inputs start done (items ++ left) kept taken work at);
+}
+
+-- the line of an input that can't be read
+blocked_here : (script : Script) (inputs : Inputs) (start : List ℕ) (done left : List Item) (n : ℕ) (name input : List ℕ) (cause : Block) (kept : List Kept) (taken : Option (List ℕ))
+    → InWork script done (do_line n ∷ left) → (at : IsAt script inputs start done kept taken) → statement_at script n ≡ Some (line name (lines_form input))
+    → block_of_input (inputs input) ≡ Some cause → IsStopped script inputs input cause (texts_among script at.lists done)
+blocked_here script inputs start done left n name input cause kept taken work at is blocked =
+    let r = runs_are_runs script inputs at.lists done (do_line n ∷ left) work at.run in
+    record {
+      count = length done;
+      done = record { lists = at.lists; run = r.0; texts = sym r.1 };
+      next = n;
+      left = left;
+      work = r.2;
+      defined = name;
+      is = is;
+      blocked = ap (block_of_statement inputs at.lists) is ∙ blocked;
+    }
+
+source_end : (script : Script) (inputs : Inputs) (start : List ℕ) (done left : List Item) (n : ℕ) (name input : List ℕ) (f : TopFault) (kept : List Kept) (taken : Option (List ℕ))
+    → InWork script done (do_line n ∷ left) → (at : IsAt script inputs start done kept taken) → statement_at script n ≡ Some (line name (lines_form input))
+    → IsSourceFault f → IsSourceBlock f input (inputs input) → RunEnd script inputs (Some f) (texts_among script at.lists done)
+source_end script inputs start done left n name input faults.Usage kept taken work at is kind block = absurd kind
+source_end script inputs start done left n name input (faults.Script k cause) kept taken work at is kind block = absurd kind
+source_end script inputs start done left n name input (faults.WriteFault count) kept taken work at is kind block = absurd kind
+source_end script inputs start done left n name input (faults.ReadFault count) kept taken work at is kind block =
+    cut_here script inputs start done (do_line n ∷ left) kept taken work at
+source_end script inputs start done left n name input faults.NoMemory kept taken work at is kind block =
+    cut_here script inputs start done (do_line n ∷ left) kept taken work at
+source_end script inputs start done left n name input (faults.Missing absent) kept taken work at is kind block =
+    let Stopped : List ℕ → Type 0 = λ x. IsStopped script inputs x missing (texts_among script at.lists done) in
+    subst Stopped (sym block.0) (blocked_here script inputs start done left n name input missing kept taken work at is block.1)
+source_end script inputs start done left n name input (faults.LineTooLong long k) kept taken work at is kind block =
+    let Stopped : List ℕ → Type 0 = λ x. IsStopped script inputs x (line_too_long k) (texts_among script at.lists done) in
+    subst Stopped (sym block.0) (blocked_here script inputs start done left n name input (line_too_long k) kept taken work at is block.1)
+source_end script inputs start done left n name input (faults.InputTooLong long) kept taken work at is kind block =
+    let Stopped : List ℕ → Type 0 = λ x. IsStopped script inputs x input_too_long (texts_among script at.lists done) in
+    subst Stopped (sym block.0) (blocked_here script inputs start done left n name input input_too_long kept taken work at is block.1)
+
+told_source : (holds : Option Holdings) (fixed : Bool) (inputs : Inputs) (P : Option (List ℕ) → Type 0) (input : List ℕ) → TellsInputs holds fixed inputs
+    → (fixed ≡ true → IfSome holds (λ held. P (held input))) → P (inputs input)
+told_source holds fixed inputs P input tells h =
+    let Told : Option Holdings → Type 0 = λ o. IfSome o (λ held. P (held input)) in
+    subst Told tells.0 (h tells.1)
+
+pub source_stops : (script : Script) (holds : Option Holdings) (fixed : Bool) (n : ℕ) (name input : List ℕ) (kept : List Kept) (taken : Option (List ℕ)) (f : TopFault)
+    → statement_at script n ≡ Some (line name (lines_form input)) → IsSourceFault f → (fixed ≡ true → IfSome holds (λ held. IsSourceBlock f input (held input)))
+    → Stops script holds fixed (do_line n ∷ []) kept taken f taken
+source_stops script holds fixed n name input kept taken f is kind block = λ inputs start done left tells work at. record {
+  took = texts_among script at.lists done;
+  since = at.since;
+  end = source_end script inputs start done left n name input f kept taken work at is kind (told_source holds fixed inputs (IsSourceBlock f input) input tells block);
+}
+
+pub memory_stops : (script : Script) (holds : Option Holdings) (fixed : Bool) (items : List Item) (kept : List Kept) (f : TopFault)
+    → f ≡ faults.NoMemory → (taken : Option (List ℕ)) → Stops script holds fixed items kept taken f taken
+memory_stops script holds fixed items kept f is = λ taken.
+    let Device : TopFault → Type 0 = IsDeviceFault in
+    stops_here script holds fixed items kept taken f (subst Device (sym is) tt)
+
+-- lines ---------------------------------------------------------------------------------------------------------------
+
+pieces_few : (separator : ℕ) (run bytes : List ℕ) → length (pieces_from separator run bytes) ≤ length run + length bytes
+unfolding pieces_from
+pieces_few separator [] [] = omega arith
+pieces_few separator (b ∷ run) [] = omega arith
+pieces_few separator run (b ∷ bytes) =
+    elim (eqb b separator) as (λ t. length (cond t (run ∷ pieces_from separator [] bytes) (pieces_from separator (run ++ b ∷ []) bytes)) ≤ length run + length (b ∷ bytes)) [
+      | true ↦ (let few = pieces_few separator [] bytes in omega (arith, few))
+      | false ↦ (let few = pieces_few separator (run ++ b ∷ []) bytes in let long = length-append run (b ∷ []) in omega (arith, few, long))
+    ]
+
+free_short : (o : Option ℕ) (bytes : List ℕ) → block_of_long_line o bytes ≡ None → length bytes ≤ longest_input
+free_short (Some n) bytes free = let wrong : ⊥ = cc in absurd wrong
+free_short None bytes free =
+    elim (ltb longest_input (length bytes)) as (λ t. ltb longest_input (length bytes) ≡ t → cond t (Some input_too_long) None ≡ None → length bytes ≤ longest_input) [
+      | true ↦ λ e f. (let wrong : ⊥ = cc in absurd wrong)
+      | false ↦ λ e f. ltb-false longest_input (length bytes) e
+    ] refl free
+
+short_rows : (rows : List Row) (held : Option (List ℕ)) → IsInput rows held → length rows ≤ longest_input
+short_rows rows held h =
+    let Free : Option (List ℕ) → Type 0 = λ o. block_of_input o ≡ None in
+    let short = free_short (long_line h.bytes) h.bytes (subst Free h.there h.free) in
+    let few = pieces_few line_feed [] h.bytes in
+    let same : length rows ≡ length (lines_of h.bytes) = ap length h.lines ∙ mapped_length line_row (lines_of h.bytes) in
+    omega (arith, short, few, same)
+
+still_listed : (lists : Lists) (n : ℕ) (rows : List Row) → is_some (lists n) ≡ false → (kept : List Kept) → AllByRecursion (IsListed lists) kept
+    → AllByRecursion (IsListed (with_list lists n rows)) kept
+still_listed lists n rows none kept all =
+    every_map (IsListed lists) (IsListed (with_list lists n rows))
+    (λ k h. (grows_with lists n rows none k.number (some_there (lists k.number) k.rows h.0) ∙ h.0, h.1)) kept all
+
+-- the lines of an input
+pub source_goes_on : (script : Script) (holds : Option Holdings) (fixed : Bool) (n : ℕ) (name input : List ℕ) (rows : List Row) (kept now : List Kept) (k : Kept)
+    → statement_at script n ≡ Some (line name (lines_form input)) → (fixed ≡ true → IfSome holds (λ held. IsInput rows (held input)))
+    → k.number ≡ n → k.rows ≡ rows → now ≡ kept ++ k ∷ [] → (taken : Option (List ℕ)) → GoesOn script holds fixed (do_line n ∷ []) kept taken now taken
+source_goes_on script holds fixed n name input rows kept now k is told number same onto = λ taken inputs start done left tells work at.
+    let h : IsInput rows (inputs input) = told_source holds fixed inputs (IsInput rows) input tells told in
+    let more = with_list at.lists n rows in
+    let none = at.run.listed n ∙ work.order.1 in
+    let g = line_goes_on script inputs at.lists done left n name (lines_form input) rows work at.run is (h.bytes, h.there, h.lines) h.free in
+    let here : more n ≡ Some rows = rw (eq-eqb n n refl) refl in
+    let At : ℕ → Type 0 = λ m. more m ≡ Some rows in
+    let Listed : List Kept → Type 0 = λ xs. AllByRecursion (IsListed more) xs in
+    let short = short_rows rows (inputs input) h in
+    let long = ap length same in
+    let mine : IsListed more k = (subst At (sym number) here ∙ ap Some (sym same), omega (arith, short, long)) in
+    record {
+      lists = more;
+      run = g.0;
+      are = subst Listed (sym onto) (every_push (IsListed more) kept k (still_listed at.lists n rows none kept at.are) mine);
+      since = at.since ∙ ap (λ (t : List ℕ). Some (start ++ t)) (sym g.1);
+    }
+
+pub source_keeps : (script : Script) (n : ℕ) (rows : List Row) (kept now : List Kept) (k : Kept) → ((bytes : List ℕ) × (rows ≡ line_rows bytes))
+    → k.number ≡ n → k.rows ≡ rows → now ≡ kept ++ k ∷ [] → KeepsOn script (do_line n ∷ []) kept now
+source_keeps script n rows kept now k lines number same onto = λ done left work are.
+    let There : List Kept → ℕ → Type 0 = λ xs l. IsSome (kept_at xs l) in
+    let Lines : List Kept → Type 0 = λ xs. AllByRecursion AreLines xs in
+    record {
+      there = λ l name input has is.
+          let Has : List ℕ → Type 0 = λ xs. has_number xs l ≡ true in
+          let cases = has_cases (lines_among done) (n ∷ []) l (subst Has (lines_push_line done n) has) in
+          let Here : List Kept → Type 0 = λ xs. IsSome (kept_at xs l) in
+          subst Here (sym onto) (elim cases [
+            | inl e ↦ kept_push_old kept k l (are.there l name input e is)
+            | inr e ↦ kept_push_new kept k l (number ∙ is_one n l e)
+          ]);
+      lines = subst Lines (sym onto) (every_push AreLines kept k are.lines (lines.0, same ∙ lines.1));
+    }
+
+some_form : (name defined : List ℕ) (x y : Form) → Some (line name x) ≡ Some (line defined y) → x ≡ y
+some_form name defined x y e = cc
+
+-- a line that is made of another
+pub local_goes_on : (script : Script) (holds : Option Holdings) (fixed : Bool) (n of : ℕ) (op : LocalOp) (name : List ℕ) (kept : List Kept) (taken : Option (List ℕ))
+    → statement_at script n ≡ Some (line name (local_form of op)) → GoesOn script holds fixed (do_line n ∷ []) kept taken kept taken
+local_goes_on script holds fixed n of op name kept taken is = λ inputs start done left tells work at.
+    let r = work.order.0 in
+    let form : r.form ≡ local_form of op = some_form r.name name r.form (local_form of op) (sym r.is ∙ is) in
+    let Ops : Form → Type 0 = λ f. AllByRecursion (λ m. has_number (lines_among done) m ≡ true) (form_operands f) in
+    let a = listed_there (at.lists of) (at.run.listed of ∙ (subst Ops form r.operands).0) in
+    let rows = flat_map (rows_made op) a.0 in
+    let none = at.run.listed n ∙ work.order.1 in
+    let g = line_goes_on script inputs at.lists done left n name (local_form of op) rows work at.run is (a.0, a.1, refl) refl in
+    record {
+      lists = with_list at.lists n rows;
+      run = g.0;
+      are = still_listed at.lists n rows none kept at.are;
+      since = at.since ∙ ap (λ (t : List ℕ). Some (start ++ t)) (sym g.1);
+    }
+
+pub local_keeps : (script : Script) (n of : ℕ) (op : LocalOp) (name : List ℕ) (kept : List Kept)
+    → statement_at script n ≡ Some (line name (local_form of op)) → KeepsOn script (do_line n ∷ []) kept kept
+local_keeps script n of op name kept here = λ done left work are. record {
+  there = λ l defined input has is.
+      let Has : List ℕ → Type 0 = λ xs. has_number xs l ≡ true in
+      elim (has_cases (lines_among done) (n ∷ []) l (subst Has (lines_push_line done n) has)) [
+        | inl e ↦ are.there l defined input e is
+        | inr e ↦
+          let At : ℕ → Type 0 = λ m. statement_at script m ≡ Some (line name (local_form of op)) in
+          let same : local_form of op ≡ lines_form input = some_form name defined (local_form of op) (lines_form input) (sym (subst At (is_one n l e) here) ∙ is) in
+          let wrong : ⊥ = cc in
+          absurd wrong
+      ];
+  lines = are.lines;
+}
+
+-- actions --------------------------------------------------------------------------------------------------------------
+
+pub action_keeps : (script : Script) (n : ℕ) (kept : List Kept) → KeepsOn script (do_action n ∷ []) kept kept
+action_keeps script n kept = λ done left work are. record {
+  there = λ l name input has is.
+      let Has : List ℕ → Type 0 = λ xs. has_number xs l ≡ true in
+      are.there l name input (subst Has (lines_push_action done n) has) is;
+  lines = are.lines;
+}
+
+-- the code's action
+pub is_print : (action : actions.Action) → action_in action ≡ print_action (action_operand (action_in action))
+is_print (Print of) = refl
+
+-- what an action finds: the chain of its line, and the rows that are kept for the chain's root
+pub record IsServed (script : Script) (chains : List Made) (kept : List Kept) (of : ℕ) : Type 0 where
+  pub found : IsFound script chains of
+  pub rows : List Row
+  pub are : kept_at kept found.made.root ≡ Some rows
+  pub lines : (bytes : List ℕ) × (rows ≡ line_rows bytes)
+
+some_action : (x y : Action) → Some (act x) ≡ Some (act y) → x ≡ y
+some_action x y e = cc
+
+operand_has : (script : Script) (done : List ℕ) (n of : ℕ) (action : Action) → IsReadyAction script done n → statement_at script n ≡ Some (act action)
+    → action_operand action ≡ of → has_number done of ≡ true
+operand_has script done n of action r is operand =
+    let same : r.action ≡ action = some_action r.action action (sym r.is ∙ is) in
+    let Has : ℕ → Type 0 = λ m. has_number done m ≡ true in
+    subst Has (ap action_operand same ∙ operand) r.operand
+
+pub served : (script : Script) (chains : List Made) (kept : List Kept) (n of : ℕ) (action : Action) → IsMidway script (do_action n ∷ []) kept → AreChains script chains
+    → statement_at script n ≡ Some (act action) → action_operand action ≡ of → IsServed script chains kept of
+served script chains kept n of action m are is operand =
+    let has = operand_has script (lines_among m.done) n of action m.work.order.0 is operand in
+    let r = ready_at script (lines_among m.done) m.done of m.work.ready has in
+    let f = chain_found script chains of r.name r.form are r.is in
+    let made = f.made in
+    let Has : ℕ → Type 0 = λ k. has_number (lines_among m.done) k ≡ true in
+    let root = roots_are_done script m.done (do_action n ∷ m.left) made.root (ops_of (maps_in made.maps.items)) made.number m.work f.is.0.chain (subst Has (sym f.number) has) in
+    let rows = there (kept_at kept made.root) (m.are.there made.root f.is.0.name f.is.0.input root f.is.0.root) in
+    record { found = f; rows = rows.0; are = rows.1; lines = kept_lines kept made.root rows.0 m.are.lines rows.1 }
+  where
+    there : (o : Option (List Row)) → IsSome o → (rows : List Row) × (o ≡ Some rows)
+    there None some = absurd (true≢false (sym some))
+    there (Some rows) some = (rows, refl)
+
+-- with the chain and the rows that were found
+pub served_with : (script : Script) (chains : List Made) (kept : List Kept) (of : ℕ) (made : Made) (rows : List Row) → IsServed script chains kept of
+    → find (with_number of) chains ≡ Some made → kept_at kept made.root ≡ Some rows
+    → (s : IsServed script chains kept of) × (s.found.made ≡ made) × (s.rows ≡ rows)
+served_with script chains kept of made rows s found are =
+    let same = found_same (find (with_number of) chains) s.found.made made s.found.found found in
+    let Root : Made → Type 0 = λ m. kept_at kept m.root ≡ Some s.rows in
+    (s, same, rows_same (kept_at kept made.root) s.rows rows (subst Root same s.are) are)
+
+through_maps : (maps : List (List Expr)) (row : Row) → rows_through (ops_of maps) row ≡ mapped maps row ∷ []
+through_maps [] row = refl
+through_maps (exprs ∷ maps) row = append-nil (rows_through (ops_of maps) (values_of exprs row)) ∙ through_maps maps (values_of exprs row)
+
+all_through : (maps : List (List Expr)) (rows : List Row) → flat_map (rows_through (ops_of maps)) rows ≡ map (mapped maps) rows
+all_through maps [] = refl
+all_through maps (row ∷ rows) =
+    ap (λ (rs : List Row). rs ++ flat_map (rows_through (ops_of maps)) rows) (through_maps maps row)
+    ∙ ap (λ (rs : List Row). mapped maps row ∷ rs) (all_through maps rows)
+
+texts_mapped : (maps : List (List Expr)) (rows : List Row) → flat_map row_text (map (mapped maps) rows) ≡ texts_of maps rows
+texts_mapped maps [] = refl
+texts_mapped maps (row ∷ rows) = ap (λ (t : List ℕ). row_text (mapped maps row) ++ t) (texts_mapped maps rows)
+
+-- the rows that an action prints
+record IsPrinted (lists : Lists) (of : ℕ) (maps : List (List Expr)) (rows : List Row) : Type 0 where
+  free : block_of_action lists (print_action of) ≡ None
+  text : action_text lists (print_action of) ≡ texts_of maps rows
+
+printed : (script : Script) (inputs : Inputs) (lists : Lists) (done left : List Item) (chains : List Made) (kept : List Kept) (of : ℕ)
+    → InWork script done left → IsRunOf script inputs lists done → AllByRecursion (IsListed lists) kept → has_number (lines_among done) of ≡ true
+    → (s : IsServed script chains kept of) → IsPrinted lists of (maps_in s.found.made.maps.items) s.rows
+printed script inputs lists done left chains kept of work run all has s =
+    let made = s.found.made in
+    let maps = maps_in made.maps.items in
+    let Has : ℕ → Type 0 = λ k. has_number (lines_among done) k ≡ true in
+    let c = chains_make script inputs lists done left made.root (ops_of maps) made.number work run s.found.is.0.chain (subst Has (sym s.found.number) has) in
+    let l = kept_listed lists kept made.root s.rows all s.are in
+    let same : c.0 ≡ s.rows = some_rows c.0 s.rows (sym c.1 ∙ l.0) in
+    let At : ℕ → Type 0 = λ k. lists k ≡ Some (map (mapped maps) s.rows) in
+    let here : lists of ≡ Some (map (mapped maps) s.rows) =
+    subst At s.found.number (c.2 ∙ ap (λ (rs : List Row). Some (flat_map (rows_through (ops_of maps)) rs)) same ∙ ap Some (all_through maps s.rows)) in
+    let rows : rows_in (lists of) ≡ map (mapped maps) s.rows = ap rows_in here in
+    let few : length (rows_in (lists of)) ≤ longest_input = (let long = ap length rows ∙ mapped_length (mapped maps) s.rows in let short = l.1 in omega (arith, long, short)) in
+    record {
+      free = rw (not_many (length (rows_in (lists of))) few) refl;
+      text = ap (flat_map row_text) rows ∙ texts_mapped maps s.rows;
+    }
+  where
+    not_many : (n : ℕ) → n ≤ longest_input → ltb most_rows n ≡ false
+    not_many n few = elim (ltb most_rows n) as (λ t. ltb most_rows n ≡ t → t ≡ false) [
+      | true ↦ λ e. (let many = ltb-true most_rows n e in absurd (omega (arith, few, many)))
+      | false ↦ λ e. refl
+    ] refl
+
+took_since : (taken now : Option (List ℕ)) (start texts text : List ℕ) → taken ≡ Some (start ++ texts) → TookAll taken text now → now ≡ Some (start ++ (texts ++ text))
+took_since taken now start texts text is took =
+    let Took : Option (List ℕ) → Type 0 = λ o. TookAll o text now in
+    subst Took is took ∙ ap Some (append_assoc start texts text)
+
+pub print_goes_on : (script : Script) (n of : ℕ) (chains : List Made) (kept : List Kept) (taken now : Option (List ℕ))
+    → statement_at script n ≡ Some (act (print_action of)) → (s : IsServed script chains kept of) → TookAll taken (texts_of (maps_in s.found.made.maps.items) s.rows) now
+    → (holds : Option Holdings) (fixed : Bool) → GoesOn script holds fixed (do_action n ∷ []) kept taken kept now
+print_goes_on script n of chains kept taken now is s took = λ holds fixed inputs start done left tells work at.
+    let has = operand_has script (lines_among done) n of (print_action of) work.order.0 is refl in
+    let p = printed script inputs at.lists done (do_action n ∷ left) chains kept of work at.run at.are has s in
+    let g = action_goes_on script inputs at.lists done left n (print_action of) work at.run is p.free in
+    let Took : List ℕ → Type 0 = λ t. TookAll taken t now in
+    record {
+      lists = at.lists;
+      run = g.0;
+      are = at.are;
+      since = took_since taken now start (texts_among script at.lists done) (action_text at.lists (print_action of)) at.since (subst Took (sym p.text) took)
+          ∙ ap (λ (t : List ℕ). Some (start ++ t)) (sym g.1);
+    }
+
+print_device : (f : TopFault) → IsPrintFault f → IsDeviceFault f
+print_device (faults.WriteFault count) is = tt
+print_device faults.NoMemory is = tt
+print_device faults.Usage is = absurd is
+print_device (faults.Script n cause) is = absurd is
+print_device (faults.Missing name) is = absurd is
+print_device (faults.LineTooLong name n) is = absurd is
+print_device (faults.InputTooLong name) is = absurd is
+print_device (faults.ReadFault count) is = absurd is
+
+pub print_stops : (script : Script) (n of : ℕ) (chains : List Made) (kept : List Kept) (taken now : Option (List ℕ)) (f : TopFault)
+    → statement_at script n ≡ Some (act (print_action of)) → (s : IsServed script chains kept of) → TookFront taken (texts_of (maps_in s.found.made.maps.items) s.rows) now
+    → IsPrintFault f → (holds : Option Holdings) (fixed : Bool) → Stops script holds fixed (do_action n ∷ []) kept taken f now
+print_stops script n of chains kept taken now f is s took kind = λ holds fixed inputs start done left tells work at.
+    let has = operand_has script (lines_among done) n of (print_action of) work.order.0 is refl in
+    let p = printed script inputs at.lists done (do_action n ∷ left) chains kept of work at.run at.are has s in
+    let g = action_goes_on script inputs at.lists done left n (print_action of) work at.run is p.free in
+    let w = goes_on script done left (do_action n) work in
+    let r = runs_are_runs script inputs at.lists (done ++ do_action n ∷ []) left w g.0 in
+    let texts = texts_among script at.lists done in
+    let Took : Option (List ℕ) → Type 0 = λ o. TookFront o (texts_of (maps_in s.found.made.maps.items) s.rows) now in
+    let front = subst Took at.since took in
+    record {
+      took = texts ++ front.0;
+      since = front.3 ∙ ap Some (append_assoc start texts front.0);
+      end = device_end script inputs f (texts ++ front.0) (print_device f kind) (record {
+        count = length (done ++ do_action n ∷ []);
+        all = texts ++ action_text at.lists (print_action of);
+        done = record { lists = at.lists; run = r.0; texts = sym (r.1 ∙ g.1) };
+        rest = front.1;
+        parts = ap (λ (t : List ℕ). texts ++ t) (p.text ∙ front.2) ∙ sym (append_assoc texts front.0 front.1);
+      });
+    }
+
+-- the whole work --------------------------------------------------------------------------------------------------------
+
+at_first : (script : Script) (inputs : Inputs) (start : List ℕ) (taken : Option (List ℕ)) → taken ≡ Some start → IsAt script inputs start [] [] taken
+at_first script inputs start taken is = record { lists = no_lists; run = begins script inputs; are = tt; since = is ∙ ap Some (sym (append-nil start)) }
+
+-- nothing was done
+pub nothing_ends : (script : Script) (inputs : Inputs) (start : List ℕ) (taken : Option (List ℕ)) (f : TopFault) → InWork script [] (work_of script) → taken ≡ Some start
+    → f ≡ faults.NoMemory → EndsRun script inputs start (Some f) taken
+nothing_ends script inputs start taken f work is kind =
+    let at = at_first script inputs start taken is in
+    let Device : TopFault → Type 0 = IsDeviceFault in
+    record {
+      took = texts_among script at.lists [];
+      since = at.since;
+      end = device_end script inputs f (texts_among script at.lists []) (subst Device (sym kind) tt) (cut_here script inputs start [] (work_of script) [] taken work at);
+    }
+
+pub midway_whole : (script : Script) (items : List Item) → items ≡ work_of script → InWork script [] (work_of script) → IsMidway script items []
+midway_whole script items is work =
+    let In : List Item → Type 0 = λ xs. InWork script [] xs in
+    record {
+      done = [];
+      left = [];
+      work = subst In (sym (append-nil items ∙ is)) work;
+      are = record { there = λ l name input has at. absurd (true≢false (sym has)); lines = tt };
+    }
+
+pub work_ends : (script : Script) (holds : Option Holdings) (fixed : Bool) (items : List Item) (kept : List Kept) (taken now : Option (List ℕ)) (r : Result (Unit {0}) TopFault)
+    → items ≡ work_of script → InWork script [] (work_of script) → OnOk r (GoesOn script holds fixed items [] taken kept now)
+    → IfErr r (λ f. Stops script holds fixed items [] taken f now)
+    → (inputs : Inputs) (start : List ℕ) → TellsInputs holds fixed inputs → taken ≡ Some start → EndsRun script inputs start (fault_in r) now
+work_ends script holds fixed items kept taken now (Err f) is work ok refused inputs start tells since =
+    let In : List Item → Type 0 = λ xs. InWork script [] xs in
+    refused inputs start [] [] tells (subst In (sym (append-nil items ∙ is)) work) (at_first script inputs start taken since)
+work_ends script holds fixed items kept taken now (Ok done) is work ok refused inputs start tells since =
+    let In : List Item → Type 0 = λ xs. InWork script [] xs in
+    let at = ok inputs start [] [] tells (subst In (sym (append-nil items ∙ is)) work) (at_first script inputs start taken since) in
+    let all : InWork script items [] = whole script items work is in
+    let runs = runs_are_runs script inputs at.lists items [] all at.run in
+    let long : length items ≡ length (work_of script) = ap length is in
+    let Done : ℕ → Type 0 = λ n. IsDone script inputs n (texts_among script at.lists items) in
+    record {
+      took = texts_among script at.lists items;
+      since = at.since;
+      end = subst Done long (record { lists = at.lists; run = runs.0; texts = sym runs.1 });
+    }
+  where
+    through : (s : Script) (xs left : List Item) (front : List Item) → InWork s front (xs ++ left) → InWork s (front ++ xs) left
+    through s [] left front w = let In : List Item → Type 0 = λ ys. InWork s ys left in subst In (sym (append-nil front)) w
+    through s (x ∷ xs) left front w =
+        let In : List Item → Type 0 = λ ys. InWork s ys left in
+        subst In (append_assoc front (x ∷ []) xs) (through s xs left (front ++ x ∷ []) (goes_on s front (xs ++ left) x w))
+
+    whole : (s : Script) (xs : List Item) → InWork s [] (work_of s) → xs ≡ work_of s → InWork s xs []
+    whole s xs w same =
+        let In : List Item → Type 0 = λ ys. InWork s [] ys in
+        through s xs [] [] (subst In (sym (append-nil xs ∙ same)) w)

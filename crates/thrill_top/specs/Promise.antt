@@ -1,0 +1,121 @@
+-- What a call promises, by how it ended. The shelf tells what it holds and is fixed, and `out` tells what it took.
+use Rattle.std.specs.Prelude.{◌≡◌, ◌⊎◌, ℕ, Bool, true, List, [], ◌∷◌, ◌++◌, All, length, drop, Option, None, Some, Result, Ok, Err}
+use Rattle.dia_defs.specs.declared.cause.Cause.{Cause}
+use Rattle.dia_defs.specs.Scripts.{lines_form, line, Script, statement_at}
+use Rattle.dia_defs.specs.Reading.{ReadsAs, IsRefused}
+use Rattle.dia_defs.specs.Lists.{Inputs, Lists, Block, missing, line_too_long, input_too_long}
+use Rattle.dia_defs.specs.Work.{Item, do_line, work_of}
+use Rattle.dia_defs.specs.Runs.{IsRun, block_of, run_texts}
+use Rattle.dia_edge.specs.Shelves.{Holdings}
+use Rattle.thrill_top.specs.declared.fault.TopFault.{TopFault}
+use Rattle.thrill_top.specs.declared.fault.TopFault.TheVariants as faults
+
+-- a fixed shelf that tells holds these inputs
+abbrev pub TellsInputs : Option Holdings → Bool → Inputs → Type 0
+TellsInputs holds fixed inputs = (holds ≡ Some inputs) × (fixed ≡ true)
+
+-- each of the lines among the first n items of the work has one list, a result of its definition on the lists that it
+-- names, and these bytes are the texts of the actions among them on these lists
+pub record IsDone (script : Script) (inputs : Inputs) (n : ℕ) (took : List ℕ) : Type 0 where
+  pub lists : Lists
+  pub run : IsRun script inputs lists n
+  pub texts : took ≡ run_texts script lists n
+
+-- the same, and the next item can't be done, for this cause; it is the line of the input with this name
+pub record IsStopped (script : Script) (inputs : Inputs) (name : List ℕ) (cause : Block) (took : List ℕ) : Type 0 where
+  pub count : ℕ
+  pub done : IsDone script inputs count took
+  pub next : ℕ
+  pub left : List Item
+  pub work : drop count (work_of script) ≡ do_line next ∷ left
+  pub defined : List ℕ
+  pub is : statement_at script next ≡ Some (line defined (lines_form name))
+  pub blocked : block_of script inputs done.lists (do_line next) ≡ Some cause
+
+-- these bytes are a front of the texts of some first items
+pub record IsCutOff (script : Script) (inputs : Inputs) (took : List ℕ) : Type 0 where
+  pub count : ℕ
+  pub all : List ℕ
+  pub done : IsDone script inputs count all
+  pub rest : List ℕ
+  pub parts : all ≡ took ++ rest
+
+-- how the run of an accepted script ends, and what `out` took
+abbrev pub RunEnd : Script → Inputs → Option TopFault → List ℕ → Type 0
+RunEnd script inputs None took = IsDone script inputs (length (work_of script)) took
+RunEnd script inputs (Some faults.Usage) took = ⊥
+RunEnd script inputs (Some (faults.Script n cause)) took = ⊥
+RunEnd script inputs (Some (faults.Missing name)) took = IsStopped script inputs name missing took
+RunEnd script inputs (Some (faults.LineTooLong name n)) took = IsStopped script inputs name (line_too_long n) took
+RunEnd script inputs (Some (faults.InputTooLong name)) took = IsStopped script inputs name input_too_long took
+RunEnd script inputs (Some (faults.ReadFault count)) took = IsCutOff script inputs took
+RunEnd script inputs (Some (faults.WriteFault count)) took = IsCutOff script inputs took
+RunEnd script inputs (Some faults.NoMemory) took = IsCutOff script inputs took
+
+-- the input with this name reads as one script, and its run ends so
+pub record IsAccepted (inputs : Inputs) (name : List ℕ) (fault : Option TopFault) (took : List ℕ) : Type 0 where
+  pub bytes : List ℕ
+  pub there : inputs name ≡ Some bytes
+  pub script : Script
+  pub reads : ReadsAs bytes script
+  pub end : RunEnd script inputs fault took
+
+-- the input with this name is refused as a script, and `out` took nothing
+pub record IsBadScript (inputs : Inputs) (name : List ℕ) (n : ℕ) (cause : Cause) (took : List ℕ) : Type 0 where
+  pub bytes : List ℕ
+  pub there : inputs name ≡ Some bytes
+  pub refused : IsRefused bytes n cause
+  pub nothing : took ≡ []
+
+-- how a call that runs the script with this name ends, and what `out` took
+abbrev pub CallEnd : Inputs → List ℕ → Option TopFault → List ℕ → Type 0
+CallEnd inputs name (Some faults.Usage) took = ⊥
+CallEnd inputs name (Some (faults.Script n cause)) took = IsBadScript inputs name n cause took
+CallEnd inputs name (Some (faults.Missing absent)) took =
+    ((absent ≡ name) × (inputs name ≡ None) × (took ≡ [])) ⊎ IsAccepted inputs name (Some (faults.Missing absent)) took
+CallEnd inputs name (Some (faults.ReadFault count)) took = (took ≡ []) ⊎ IsAccepted inputs name (Some (faults.ReadFault count)) took
+CallEnd inputs name (Some faults.NoMemory) took = (took ≡ []) ⊎ IsAccepted inputs name (Some faults.NoMemory) took
+CallEnd inputs name fault took = IsAccepted inputs name fault took
+
+-- since it began, when `out` had taken `start`
+pub record EndsRun (script : Script) (inputs : Inputs) (start : List ℕ) (fault : Option TopFault) (taken : Option (List ℕ)) : Type 0 where
+  pub took : List ℕ
+  pub since : taken ≡ Some (start ++ took)
+  pub end : RunEnd script inputs fault took
+
+pub record EndsCall (inputs : Inputs) (name start : List ℕ) (fault : Option TopFault) (taken : Option (List ℕ)) : Type 0 where
+  pub took : List ℕ
+  pub since : taken ≡ Some (start ++ took)
+  pub end : CallEnd inputs name fault took
+
+-- the fault of a call that answers none or one
+abbrev pub fault_in : {T : Type 0} → Result T TopFault → Option TopFault
+fault_in (Ok done) = None
+fault_in (Err fault) = Some fault
+
+-- what the premises of the other clauses say ------------------------------------------------------------------------
+
+-- the input with this name is refused as a script
+abbrev pub IsRefusedScript : Inputs → List ℕ → ℕ → Cause → Type 0
+IsRefusedScript inputs name n cause = (bytes : List ℕ) × (inputs name ≡ Some bytes) × IsRefused bytes n cause
+
+-- an item that is the line of an input whose bytes may be read, or anything else
+abbrev pub IsOpen : Script → Inputs → Item → Type 0
+IsOpen script inputs item = block_of script inputs (λ l. None) item ≡ None
+
+-- the input with this name reads as the script, and each input that it needs is there and within its limits
+pub record IsReadable (inputs : Inputs) (name : List ℕ) (script : Script) : Type 0 where
+  pub bytes : List ℕ
+  pub there : inputs name ≡ Some bytes
+  pub reads : ReadsAs bytes script
+  pub open_inputs : All (IsOpen script inputs) (work_of script)
+
+abbrev pub IsRefusedWith : ℕ → Cause → Option TopFault → Type 0
+IsRefusedWith n cause fault = fault ≡ Some (faults.Script n cause)
+
+abbrev pub IsAbsentWith : List ℕ → Option TopFault → Type 0
+IsAbsentWith name fault = fault ≡ Some (faults.Missing name)
+
+-- a fault of a device, or want of memory
+abbrev pub IsExcused : ℕ → Type 0
+IsExcused status = (status ≡ 8) ⊎ ((status ≡ 9) ⊎ (status ≡ 12))
