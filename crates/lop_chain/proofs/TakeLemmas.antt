@@ -7,7 +7,12 @@ use Rattle.lop_chain.specs.declared.sink.RowSink.{Ghosts}
 module _ {S D R : Type 0} (g : Ghosts S D R) where
   pub took_nothing : (s : S) (d : D) → g.took s [] s → g.serves s d → g.is_shut s ≡ false → TookAll g s d [] s d
   took_nothing s d none serves is_open = record {
-    took = none; accepts = λ kinds h. h; accepted = λ kinds h. h; serves = serves; is_open = is_open; held = refl;
+    took = none;
+    accepts = λ kinds h. h;
+    accepted = λ kinds h. h;
+    serves = serves;
+    is_open = is_open;
+    held = refl;
   }
 
   pub took_then :
@@ -46,7 +51,14 @@ module _ {S D R : Type 0} (g : Ghosts S D R) where
       → IfErr r (λ e. TookSome g s d (row ∷ []) e t b)
   refused_one s t d b row (Ok x) none refused shut = tt
   refused_one s t d b row (Err e) none refused shut = record {
-    front = []; next = row; back = []; at = s; parts = refl; took = none; refused = refused; shut = shut;
+    front = [];
+    next = row;
+    back = [];
+    at = s;
+    parts = refl;
+    took = none;
+    refused = refused;
+    shut = shut;
   }
 
   pub took_until_err :

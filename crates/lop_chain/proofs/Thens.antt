@@ -67,8 +67,8 @@ module _ {T O S D R : Type 0} (h : Ghosts T D R) (o : OpGhosts O) (g : Ghosts S 
           between = w.rows;
           by_first = w.made;
           by_second =
-            let M : List Row → Type 0 = λ rows. MadeOfEach (o.makes (op_of t)) rows (p.out ++ (q.some.rows ++ back.0)) in
-            subst M (sym v.parts) (MadeOfEach-append _ v.front (v.next ∷ v.back) p.out (q.some.rows ++ back.0) p.made (q.some.rows, back.0, by, back.1, refl));
+              let M : List Row → Type 0 = λ rows. MadeOfEach (o.makes (op_of t)) rows (p.out ++ (q.some.rows ++ back.0)) in
+              subst M (sym v.parts) (MadeOfEach-append _ v.front (v.next ∷ v.back) p.out (q.some.rows ++ back.0) p.made (q.some.rows, back.0, by, back.1, refl));
         };
         some = record {
           front = p.out ++ s.front;

@@ -30,7 +30,6 @@ values_kinds row (e ∷ exprs) have =
     ap (λ (ks : List Kind). kind_of (value_of e row) ∷ ks) (values_kinds row exprs have.1)
     ∙ ap (λ (o : Option Kind). cons_option o (filter_map (expr_kind (kinds_of row)) exprs)) (sym (value_kind row e have.0))
 
-
 -- a field of the same kind leaves the kinds
 pub kinds_of_set : (row : Row) (c : ℕ) (cell : Cell) → slice_get (kinds_of row) c ≡ Some (kind_of cell) → kinds_of (slice_set row c cell) ≡ kinds_of row
 kinds_of_set [] c cell e = refl

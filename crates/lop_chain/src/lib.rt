@@ -22,3 +22,6 @@ pub use local_op::LocalOp;
 pub use script_op::ScriptOp;
 pub use sink::RowSink;
 pub use then::Then;
+
+#[cfg(test)]
+mod tests;

@@ -40,7 +40,12 @@ pub trait RowSink {
     ghost stays: { Self → Self → Type 0 };
 
     /// Takes a row, or refuses it for ever: after a refusal the sink is shut, and nothing else shuts it.
-    fn take<R: Wait>(&mut self, rt: &R, desk: &mut Self::Desk, row: RowRef<'_>) -> Result<(), Self::Refusal>
+    fn take<R: Wait>(
+        &mut self,
+        rt: &R,
+        desk: &mut Self::Desk,
+        row: RowRef<'_>,
+    ) -> Result<(), Self::Refusal>
         requires kinds { accepts self.old (kinds_of (row_in_ref row)) }
         requires serves { serves self.old desk.old }
         requires is_open { is_shut self.old ≡ false }

@@ -19,6 +19,7 @@ pub(crate) struct Through<'a, B, S> {
 
 impl<'a, B: LocalOp, S: RowSink> RowSink for Through<'a, B, S> {
     type Desk = S::Desk;
+
     type Refusal = S::Refusal;
 
     ghost took = { λ t rows u. CarriedOn B.LocalOp S.RowSink t.op.now t.sink.now rows u.op.now u.sink.now };
@@ -39,7 +40,12 @@ impl<'a, B: LocalOp, S: RowSink> RowSink for Through<'a, B, S> {
     ghost stays = { λ t u. (u.op.ghost_name ≡ t.op.ghost_name) × (u.sink.ghost_name ≡ t.sink.ghost_name)
         × MakesAsBefore B.fits B.makes t.op.now u.op.now × S.stays t.sink.now u.sink.now };
 
-    fn take<R: Wait>(&mut self, rt: &R, desk: &mut S::Desk, row: RowRef<'_>) -> Result<(), S::Refusal> {
+    fn take<R: Wait>(
+        &mut self,
+        rt: &R,
+        desk: &mut S::Desk,
+        row: RowRef<'_>,
+    ) -> Result<(), S::Refusal> {
         self.op.push(rt, row, desk, self.sink)
     }
 

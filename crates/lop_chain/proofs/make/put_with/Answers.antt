@@ -14,9 +14,9 @@ loop-i-preserved c =
     let pushed = c.push_field.ensures ∙ ap (λ (xs : Row). xs ++ cell_of c.if-i-column.next ∷ []) c.loop-i.invariant in
     elim c.if-i-column.branch [
       | then-i-column w ↦
-        pushed ∙ ap (λ (f : Field). done ++ cell_of f ∷ []) w.next-is
-        ∙ sym (set_here (row_in_ref c.args.row) c.args.column c.loop-i.i _ (cell_of c.args.field) (slice_get-get_or (row_in_ref c.args.row) c.loop-i.i (int 0) (search rules)) w.if-i-column.true)
+          pushed ∙ ap (λ (f : Field). done ++ cell_of f ∷ []) w.next-is
+          ∙ sym (set_here (row_in_ref c.args.row) c.args.column c.loop-i.i _ (cell_of c.args.field) (slice_get-get_or (row_in_ref c.args.row) c.loop-i.i (int 0) (search rules)) w.if-i-column.true)
       | else-i-column w ↦
-        pushed ∙ ap (λ (f : Field). done ++ cell_of f ∷ []) w.next-is
-        ∙ sym (set_elsewhere (row_in_ref c.args.row) c.args.column c.loop-i.i _ (cell_of c.args.field) w.field-next.ensures.value w.if-i-column.false)
+          pushed ∙ ap (λ (f : Field). done ++ cell_of f ∷ []) w.next-is
+          ∙ sym (set_elsewhere (row_in_ref c.args.row) c.args.column c.loop-i.i _ (cell_of c.args.field) w.field-next.ensures.value w.if-i-column.false)
     ]

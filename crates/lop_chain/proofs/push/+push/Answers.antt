@@ -52,8 +52,8 @@ push_words-loop-word-preserved g t c =
     let row : row_in_ref c.row.result ≡ with_word (row_in_ref c.args.row) c.args.column c.in-Some.word.now = c.row.ensures ∙ c.put_with.ensures.row in
     record {
       but = took_but g.S.RowSink g.met.S.RowSink.took_more _ _ _ _ _ _ _ _ _
-        (rw (next_word (ops_in c.args.ops.now) (row_in_ref c.args.row) c.args.column c.loop-word.rest.now c.in-Some.word.now c.in-Some.after.now c.in-Some.ensures.word) at i.but)
-        (rw row at c.in-Ok.ensures.ok);
+          (rw (next_word (ops_in c.args.ops.now) (row_in_ref c.args.row) c.args.column c.loop-word.rest.now c.in-Some.word.now c.in-Some.after.now c.in-Some.ensures.word) at i.but)
+          (rw row at c.in-Ok.ensures.ok);
       follows = g.met.S.RowSink.follows_trans _ _ _ i.follows c.push_through.ensures.follows;
       stays = g.met.S.RowSink.stays_trans _ _ _ i.stays c.push_through.ensures.stays;
       short = omega (arith, c.in-Some.ensures.shorter, i.short);
@@ -86,8 +86,8 @@ push_spread-loop-i-preserved g t c =
     let row : row_in_ref c.row.result ≡ raised (row_in_ref c.args.row) c.args.column c.loop-i.i = c.row.ensures ∙ c.put_with.ensures.row ∙ raised_by (row_in_ref c.args.row) c.args.column c.number_at-first.result c.from.result c.loop-i.i c.number_at-first.ensures c.from.ensures in
     record {
       but = took_but g.S.RowSink g.met.S.RowSink.took_more _ _ _ _ _ _ _ _ _
-        (rw (next_number (ops_in c.args.ops.now) (row_in_ref c.args.row) c.args.column c.loop-i.i c.args.count c.loop-i-test.true) at i.but)
-        (rw row at c.in-Ok.ensures.ok);
+          (rw (next_number (ops_in c.args.ops.now) (row_in_ref c.args.row) c.args.column c.loop-i.i c.args.count c.loop-i-test.true) at i.but)
+          (rw row at c.in-Ok.ensures.ok);
       follows = g.met.S.RowSink.follows_trans _ _ _ i.follows c.push_through.ensures.follows;
       stays = g.met.S.RowSink.stays_trans _ _ _ i.stays c.push_through.ensures.stays;
     }
