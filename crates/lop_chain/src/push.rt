@@ -127,7 +127,7 @@ fn push_spread<R: Wait, S: RowSink>(
         put_with(row, column as usize, Field::Int(number), buffer);
         match push_through(rt, ops, buffers, buffer.row(), desk, sink) {
             Ok(()) => {}
-            Err(refusal) => return Err(refusal),
+            Err(refused) => return Err(refused),
         }
     }
     Ok(())
