@@ -1,5 +1,5 @@
 -- The rows that come of the first row of some, and of the others.
-use Rattle.std.proofs.Common.{◌≡◌, ℕ, zero, suc, ◌+◌, ◌-◌, ◌%◌, ◌^◌, ◌<◌, List, [], ◌∷◌, ◌++◌, length, map, slice_set, refl, sym, ap, ◌∙◌, arith}
+use Rattle.std.proofs.Common.{◌≡◌, ℕ, suc, ◌+◌, ◌-◌, ◌%◌, ◌^◌, ◌<◌, List, [], ◌∷◌, ◌++◌, length, map, slice_set, refl, ap, arith}
 use Rattle.std.specs.List.{range_with_len}
 use Rattle.dia_defs.specs.Rows.{int, Row}
 use Rattle.dia_defs.specs.Texts.{words_in_text}

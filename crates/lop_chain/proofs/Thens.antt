@@ -1,10 +1,10 @@
 -- A sink behind two ops that refuses.
-use Rattle.std.proofs.Common.{◌≡◌, true, List, [], ◌∷◌, ◌++◌, refl, Result, Ok, Err, IfErr, OnOk, sym, ◌∙◌, subst, append_assoc}
+use Rattle.std.proofs.Common.{◌≡◌, List, [], ◌∷◌, ◌++◌, refl, Result, Ok, Err, IfErr, OnOk, sym, ◌∙◌, subst, append_assoc}
 use Rattle.std.specs.List.{AllByRecursion}
 use Rattle.dia_defs.specs.Rows.{Row}
 use Rattle.lop_chain.specs.Rows.{Kinds, IsRowOf}
-use Rattle.lop_chain.specs.Made.{MadeOfEach, MakesAsBefore, MadeOfEach-map, MadeOfEach-append}
-use Rattle.lop_chain.specs.Calls.{TookSome, TookSomeMade, TookAll, TookAllMade}
+use Rattle.lop_chain.specs.Made.{MadeOfEach, MadeOfEach-map, MadeOfEach-append}
+use Rattle.lop_chain.specs.Calls.{TookSomeMade, TookAllMade}
 use Rattle.lop_chain.specs.Through.{CarriedOn, RefusedBelow}
 use Rattle.lop_chain.specs.Then.{MadeThen, each_total}
 use Rattle.lop_chain.specs.declared.sink.RowSink.{Ghosts}

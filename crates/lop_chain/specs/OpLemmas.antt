@@ -1,5 +1,5 @@
 -- The rows that local lines make have their kinds.
-use Rattle.std.proofs.Common.{◌≡◌, ℕ, zero, suc, ◌+◌, ◌==◌, Bool, true, false, if◌then◌else◌, List, [], ◌∷◌, ◌++◌, map, slice_get, slice_set, Option, Some, None, IsSome, refl, sym, ap, subst, ◌∙◌}
+use Rattle.std.proofs.Common.{◌≡◌, ℕ, zero, suc, ◌==◌, Bool, true, false, if◌then◌else◌, List, [], ◌∷◌, map, slice_get, slice_set, Option, Some, None, IsSome, refl, sym, ap, subst, ◌∙◌}
 use Rattle.std.specs.List.{flat_map, filter_map, cons_option, AllByRecursion, range_with_len}
 use Rattle.dia_defs.specs.declared.kind.Kind.{Kind}
 use Rattle.dia_defs.specs.declared.kind.Kind.TheVariants.{Int, Text}

@@ -1,8 +1,7 @@
-use Rattle.std.proofs.Common.{ℕ, ◌+◌, ◌*◌, ◌-◌, ◌∷◌, ◌≤◌, ◌≡◌, length, map}
+use Rattle.std.proofs.Common.{◌+◌, ◌*◌, ◌-◌, ◌∷◌, ◌≤◌, length, map}
 use Rattle.std.specs.List.{range_with_len}
 use Rattle.dia_defs.specs.Rows.{longest_text}
 use Rattle.dia_defs.specs.Texts.{words_in_text}
-use Rattle.dia_defs.specs.Values.{column, value_of, number_in}
 use Rattle.dia_defs.specs.Scripts.{words_op, spread_op}
 use Rattle.dia_defs.specs.Lists.{with_word, raised, rows_through}
 use Rattle.dia_item.specs.Lent.{row_in_ref}
