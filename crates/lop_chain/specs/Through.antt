@@ -1,8 +1,8 @@
 -- An op and the sink below it, seen as one sink.
-use Rattle.std.specs.Prelude.{List, ◌++◌}
+use Rattle.std.specs.Prelude.{List, [], ◌++◌, refl}
 use Rattle.dia_defs.specs.Rows.{Row}
 use Rattle.lop_chain.specs.Rows.{Kinds}
-use Rattle.lop_chain.specs.Made.{MadeOfEach, MakesAsBefore, MakesAsBefore-trans, MadeOfEach-map, MadeOfEach-append}
+use Rattle.lop_chain.specs.Made.{MadeOfEach, MakesAsBefore, MakesAsBefore-refl, MakesAsBefore-trans, MadeOfEach-map, MadeOfEach-append}
 use Rattle.lop_chain.specs.Calls.{TookSome, TookSomeMade}
 use Rattle.lop_chain.specs.declared.sink.RowSink.{Ghosts}
 use Rattle.lop_chain.specs.declared.local_op.LocalOp.{Ghosts as OpGhosts}
@@ -22,6 +22,16 @@ pub record RefusedBelow {O S D R : Type 0} (o : OpGhosts O) (g : Ghosts S D R) (
   pub same : MakesAsBefore o.fits o.makes x y
 
 -- laws --------------------------------------------------------------------------------------------------------
+
+pub CarriedOn-none : {O S D R : Type 0} (o : OpGhosts O) (g : Ghosts S D R) (x : O) (s : S) → g.took s [] s → CarriedOn o g x s [] x s
+CarriedOn-none o g x s none = record {
+  out = [];
+  made = refl;
+  took = none;
+  accepts = λ kinds h. h;
+  accepted = λ kinds h. h;
+  same = MakesAsBefore-refl o.fits o.makes x;
+}
 
 pub CarriedOn-more :
     {O S D R : Type 0} (o : OpGhosts O) (g : Ghosts S D R)

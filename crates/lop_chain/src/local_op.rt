@@ -32,16 +32,20 @@ pub trait LocalOp {
         requires serves { S.serves sink.old desk.old }
         requires is_open { S.is_shut sink.old ≡ false }
 
-        ensures ok { OnOk result (TookAllMade S.RowSink (makes self.old (row_in_ref row.entry)) sink.old desk.old sink.new desk.new) }
-        ensures err { IfErr result (λ e. TookSomeMade S.RowSink (makes self.old (row_in_ref row.entry)) sink.old desk.old e sink.new desk.new) }
+        ensures ok { OnOk result
+            (TookAllMade S.RowSink (makes self.old (row_in_ref row.entry)) sink.old desk.old sink.new desk.new) }
+        ensures err { IfErr result (λ e.
+            TookSomeMade S.RowSink (makes self.old (row_in_ref row.entry)) sink.old desk.old e sink.new desk.new) }
 
         ensures same { MakesAsBefore fits makes self.old self.new }
         ensures follows { S.follows desk.old desk.new }
         ensures stays { S.stays sink.old sink.new };
 
     /// Of each row that fits some rows are made.
-    ghost total: { (x : Self) (from to : Kinds) (row : Row) → fits x from to → IsRowOf from row → (rows : List Row) × makes x row rows };
+    ghost total: { (x : Self) (from to : Kinds) (row : Row)
+        → fits x from to → IsRowOf from row → (rows : List Row) × makes x row rows };
 
     /// The rows made have the kinds.
-    ghost sound: { (x : Self) (from to : Kinds) (row : Row) (rows : List Row) → fits x from to → IsRowOf from row → makes x row rows → AllByRecursion (IsRowOf to) rows };
+    ghost sound: { (x : Self) (from to : Kinds) (row : Row) (rows : List Row)
+        → fits x from to → IsRowOf from row → makes x row rows → AllByRecursion (IsRowOf to) rows };
 }

@@ -31,8 +31,10 @@ pub(crate) fn push_through<R: Wait, S: RowSink>(
     requires fits { (to : Kinds) × AreSoundOps (kinds_of (row_in_ref row)) (ops_in ops.now) to × S.accepts sink.old to }
     requires serves { S.serves sink.old desk.old }
     requires is_open { S.is_shut sink.old ≡ false }
-    ensures ok { OnOk result (TookAll S.RowSink sink.old desk.old (rows_through (ops_in ops.now) (row_in_ref row.entry)) sink.new desk.new) }
-    ensures err { IfErr result (λ e. TookSome S.RowSink sink.old desk.old (rows_through (ops_in ops.now) (row_in_ref row.entry)) e sink.new desk.new) }
+    ensures ok { OnOk result
+        (TookAll S.RowSink sink.old desk.old (rows_through (ops_in ops.now) (row_in_ref row.entry)) sink.new desk.new) }
+    ensures err { IfErr result (λ e.
+        TookSome S.RowSink sink.old desk.old (rows_through (ops_in ops.now) (row_in_ref row.entry)) e sink.new desk.new) }
     ensures follows { S.follows desk.old desk.new }
     ensures stays { S.stays sink.old sink.new }
 {
@@ -81,8 +83,10 @@ fn push_words<R: Wait, S: RowSink>(
     requires fits { (to : Kinds) × AreSoundOps (kinds_of (row_in_ref row)) (ops_in ops.now) to × S.accepts sink.old to }
     requires serves { S.serves sink.old desk.old }
     requires is_open { S.is_shut sink.old ≡ false }
-    ensures ok { OnOk result (TookAll S.RowSink sink.old desk.old (rows_through (words_op column ∷ ops_in ops.now) (row_in_ref row.entry)) sink.new desk.new) }
-    ensures err { IfErr result (λ e. TookSome S.RowSink sink.old desk.old (rows_through (words_op column ∷ ops_in ops.now) (row_in_ref row.entry)) e sink.new desk.new) }
+    ensures ok { OnOk result (TookAll S.RowSink sink.old desk.old
+        (rows_through (words_op column ∷ ops_in ops.now) (row_in_ref row.entry)) sink.new desk.new) }
+    ensures err { IfErr result (λ e. TookSome S.RowSink sink.old desk.old
+        (rows_through (words_op column ∷ ops_in ops.now) (row_in_ref row.entry)) e sink.new desk.new) }
     ensures follows { S.follows desk.old desk.new }
     ensures stays { S.stays sink.old sink.new }
 {
@@ -116,8 +120,10 @@ fn push_spread<R: Wait, S: RowSink>(
     requires fits { (to : Kinds) × AreSoundOps (kinds_of (row_in_ref row)) (ops_in ops.now) to × S.accepts sink.old to }
     requires serves { S.serves sink.old desk.old }
     requires is_open { S.is_shut sink.old ≡ false }
-    ensures ok { OnOk result (TookAll S.RowSink sink.old desk.old (rows_through (spread_op column count ∷ ops_in ops.now) (row_in_ref row.entry)) sink.new desk.new) }
-    ensures err { IfErr result (λ e. TookSome S.RowSink sink.old desk.old (rows_through (spread_op column count ∷ ops_in ops.now) (row_in_ref row.entry)) e sink.new desk.new) }
+    ensures ok { OnOk result (TookAll S.RowSink sink.old desk.old
+        (rows_through (spread_op column count ∷ ops_in ops.now) (row_in_ref row.entry)) sink.new desk.new) }
+    ensures err { IfErr result (λ e. TookSome S.RowSink sink.old desk.old
+        (rows_through (spread_op column count ∷ ops_in ops.now) (row_in_ref row.entry)) e sink.new desk.new) }
     ensures follows { S.follows desk.old desk.new }
     ensures stays { S.stays sink.old sink.new }
 {

@@ -76,5 +76,6 @@ pub trait RowSink {
     ghost stays_trans: { (a b c : Self) → stays a b → stays b c → stays a c };
 
     /// A refusal holds from every desk that the earlier one follows.
-    ghost refused_from: { (s t : Self) (a b c : Self.Desk) (row : Row) (e : Self.Refusal) → follows a b → refused s b row e t c → refused s a row e t c };
+    ghost refused_from: { (s t : Self) (a b c : Self.Desk) (row : Row) (e : Self.Refusal)
+        → follows a b → refused s b row e t c → refused s a row e t c };
 }

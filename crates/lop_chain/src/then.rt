@@ -40,9 +40,11 @@ impl<A: LocalOp, B: LocalOp> LocalOp for Then<A, B> {
 
     ghost total = { λ x from to row h k.
         let mid = A.total x.first from h.0 row h.1 k in
-        let made = each_total (B.makes x.second) h.0 mid.0 (λ r. B.total x.second h.0 to r h.2) (A.sound x.first from h.0 row mid.0 h.1 k mid.1) in
+        let made = each_total (B.makes x.second) h.0 mid.0 (λ r. B.total x.second h.0 to r h.2)
+        (A.sound x.first from h.0 row mid.0 h.1 k mid.1) in
         (made.0, record { between = mid.0; by_first = mid.1; by_second = made.1 }) };
 
     ghost sound = { λ x from to row rows h k m.
-        each_sound (B.makes x.second) h.0 to m.between rows (λ r made. B.sound x.second h.0 to r made h.2) (A.sound x.first from h.0 row m.between h.1 k m.by_first) m.by_second };
+        each_sound (B.makes x.second) h.0 to m.between rows (λ r made. B.sound x.second h.0 to r made h.2)
+        (A.sound x.first from h.0 row m.between h.1 k m.by_first) m.by_second };
 }

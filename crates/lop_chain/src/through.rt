@@ -1,9 +1,9 @@
 //! An op in front of a sink.
-ghost use Rattle.std.specs.Prelude.{◌≡◌, [], refl};
+ghost use Rattle.std.specs.Prelude.{◌≡◌, refl};
 ghost use Rattle.std.proofs.Common.{◌∙◌};
 ghost use Rattle.lop_chain.specs.Rows.{Kinds};
 ghost use Rattle.lop_chain.specs.Made.{MakesAsBefore, MakesAsBefore-refl, MakesAsBefore-trans};
-ghost use Rattle.lop_chain.specs.Through.{CarriedOn, RefusedBelow, CarriedOn-more, RefusedBelow-from};
+ghost use Rattle.lop_chain.specs.Through.{CarriedOn, RefusedBelow, CarriedOn-none, CarriedOn-more, RefusedBelow-from};
 
 use crate::local_op::LocalOp;
 use crate::sink::RowSink;
@@ -49,9 +49,10 @@ impl<'a, B: LocalOp, S: RowSink> RowSink for Through<'a, B, S> {
         self.op.push(rt, row, desk, self.sink)
     }
 
-    ghost took_none = { λ t. record { out = []; made = refl; took = S.took_none t.sink.now; accepts = λ kinds h. h; accepted = λ kinds h. h; same = MakesAsBefore-refl B.fits B.makes t.op.now } };
+    ghost took_none = { λ t. CarriedOn-none B.LocalOp.own S.RowSink.own t.op.now t.sink.now (S.took_none t.sink.now) };
 
-    ghost took_more = { λ a b c xs ys p q. CarriedOn-more B.LocalOp.own S.RowSink.own S.took_more a.op.now b.op.now c.op.now a.sink.now b.sink.now c.sink.now xs ys p q };
+    ghost took_more = { λ a b c xs ys. CarriedOn-more B.LocalOp.own S.RowSink.own S.took_more
+        a.op.now b.op.now c.op.now a.sink.now b.sink.now c.sink.now xs ys };
 
     ghost follows_refl = { S.follows_refl };
 
@@ -59,7 +60,12 @@ impl<'a, B: LocalOp, S: RowSink> RowSink for Through<'a, B, S> {
 
     ghost stays_refl = { λ t. (refl, refl, MakesAsBefore-refl B.fits B.makes t.op.now, S.stays_refl t.sink.now) };
 
-    ghost stays_trans = { λ a b c p q. (q.0 ∙ p.0, q.1 ∙ p.1, MakesAsBefore-trans B.fits B.makes a.op.now b.op.now c.op.now p.2 q.2, S.stays_trans a.sink.now b.sink.now c.sink.now p.3 q.3) };
+    ghost stays_trans = { λ a b c p q. (
+      q.0 ∙ p.0,
+      q.1 ∙ p.1,
+      MakesAsBefore-trans B.fits B.makes a.op.now b.op.now c.op.now p.2 q.2,
+      S.stays_trans a.sink.now b.sink.now c.sink.now p.3 q.3,
+    ) };
 
-    ghost refused_from = { λ s t a b c row e f p. RefusedBelow-from B.LocalOp.own S.RowSink.own S.refused_from s.op.now t.op.now s.sink.now t.sink.now a b c row e f p };
+    ghost refused_from = { λ s t. RefusedBelow-from B.LocalOp.own S.RowSink.own S.refused_from s.op.now t.op.now s.sink.now t.sink.now };
 }
