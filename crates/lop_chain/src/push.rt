@@ -41,28 +41,25 @@ pub(crate) fn push_through<R: Wait, S: RowSink>(
     let Some((op, rest)) = ops.split_first() else {
         return sink.take(rt, desk, row);
     };
-    if let ScriptOp::Filter(expr) = op {
-        return if eval_int(expr, row) != 0 {
-            push_through(rt, rest, buffers, row, desk, sink)
-        } else {
-            Ok(())
-        };
-    }
-    let Some((buffer, buffers)) = buffers.split_first_mut() else {
-        unreachable!()
-    };
-    match op {
-        ScriptOp::Map(exprs) => {
+    match (op, buffers.split_first_mut()) {
+        (ScriptOp::Filter(expr), _) => {
+            if eval_int(expr, row) != 0 {
+                push_through(rt, rest, buffers, row, desk, sink)
+            } else {
+                Ok(())
+            }
+        }
+        (ScriptOp::Map(exprs), Some((buffer, buffers))) => {
             put_values(exprs.as_slice(), row, buffer);
             push_through(rt, rest, buffers, buffer.row(), desk, sink)
         }
-        ScriptOp::Words { column } => {
+        (ScriptOp::Words { column }, Some((buffer, buffers))) => {
             push_words(rt, rest, buffer, buffers, row, *column, desk, sink)
         }
-        ScriptOp::Spread { column, count } => {
+        (ScriptOp::Spread { column, count }, Some((buffer, buffers))) => {
             push_spread(rt, rest, buffer, buffers, row, *column, *count, desk, sink)
         }
-        ScriptOp::Filter(_) => unreachable!(),
+        (_, None) => unreachable!(),
     }
 }
 
