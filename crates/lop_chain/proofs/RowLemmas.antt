@@ -28,9 +28,6 @@ pub next_number :
     → rows_from ops (map (raised row c) (range_with_len i (n - i))) ≡ rows_through ops (raised row c i) ++ rows_from ops (map (raised row c) (range_with_len (i + 1) (n - (i + 1))))
 next_number ops row c i n lt = ap (λ (numbers : List ℕ). rows_from ops (map (raised row c) numbers)) (next_numbers i n lt)
 
-pub no_number : (ops : List LocalOp) (row : Row) (c i n : ℕ) → n - i ≡ 0 → rows_from ops (map (raised row c) (range_with_len i (n - i))) ≡ []
-no_number ops row c i n e = ap (λ (k : ℕ). rows_from ops (map (raised row c) (range_with_len i k))) e
-
 pub all_numbers : (ops : List LocalOp) (row : Row) (c n : ℕ) → rows_from ops (map (raised row c) (range_with_len 0 n)) ≡ rows_from ops (map (raised row c) (range_with_len 0 (n - 0)))
 all_numbers ops row c n =
     let e : n ≡ n - 0 = omega arith in

@@ -61,14 +61,6 @@ module _ {S D R : Type 0} (g : Ghosts S D R) where
     shut = shut;
   }
 
-  pub took_until_err :
-      ((a b c : S) (xs ys : List Row) → g.took a xs b → g.took b ys c → g.took a (xs ++ ys) c)
-      → ((s t : S) (a b c : D) (row : Row) (e : R) → g.follows a b → g.refused s b row e t c → g.refused s a row e t c)
-      → (s m t : S) (d c b : D) (xs ys zs : List Row) (r : Result Unit R)
-      → g.follows d c → TookAll g s d xs m c → IfErr r (λ e. TookSome g m c ys e t b) → IfErr r (λ e. TookSome g s d (xs ++ (ys ++ zs)) e t b)
-  took_until_err more from s m t d c b xs ys zs (Ok x) f p q = tt
-  took_until_err more from s m t d c b xs ys zs (Err e) f p q = took_until more from s m t d c b xs ys zs e f p q
-
   pub took_but :
       ((a b c : S) (xs ys : List Row) → g.took a xs b → g.took b ys c → g.took a (xs ++ ys) c)
       → (s m t : S) (d c b : D) (rows ys rest : List Row) → TookAllBut g s d rows (ys ++ rest) m c → TookAll g m c ys t b → TookAllBut g s d rows rest t b
@@ -86,7 +78,3 @@ module _ {S D R : Type 0} (g : Ghosts S D R) where
   took_but_some more from s m t d c b rows ys rest e f p q =
       let P : List Row → Type 0 = λ xs. TookSome g s d xs e t b in
       subst P (sym p.parts) (took_until more from s m t d c b p.done ys rest e f p.all q)
-
-  pub took_but_nothing : (s t : S) (d b : D) (rows : List Row) → TookAllBut g s d rows [] t b → TookAll g s d rows t b
-  took_but_nothing s t d b rows p =
-      let P : List Row → Type 0 = λ xs. TookAll g s d xs t b in subst P (sym (p.parts ∙ append-nil p.done)) p.all
