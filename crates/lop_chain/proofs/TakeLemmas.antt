@@ -1,5 +1,5 @@
 -- What takes of a sink add up to.
-use Rattle.std.proofs.Common.{◌≡◌, true, false, List, [], ◌∷◌, ◌++◌, refl, sym, subst, ◌∙◌, append_assoc, append-nil, Result, Ok, Err, IfErr, OnErr}
+use Rattle.std.proofs.Common.{◌≡◌, true, false, List, [], ◌∷◌, ◌++◌, refl, sym, subst, ◌∙◌, append_assoc, Result, Ok, Err, IfErr, OnErr}
 use Rattle.dia_defs.specs.Rows.{Row}
 use Rattle.lop_chain.specs.Calls.{TookAll, TookSome, TookAllBut}
 use Rattle.lop_chain.specs.declared.sink.RowSink.{Ghosts}
