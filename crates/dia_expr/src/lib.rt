@@ -1,10 +1,11 @@
 //! Expressions: how they are spelled, their kinds, and their values on a row.
 //!
 //! Contracts see an `Expr` as the expression of the definitions, `expr_in` of `specs/Exprs.antt`. The layers above rely
-//! on three facts: `read_words` and its kin answer the expressions that the words are, or the first refusal from the
+//! on these facts: `read_words` and its kin answer the expressions that the words are, or the first refusal from the
 //! left, as `Expressions` of the definitions says; `kind_of` answers the kind, or why there is none; `eval` and
-//! `eval_int` give the value, as `Values` says, and take no memory. `specs/Laws.antt` has what follows for every
-//! expression. Reading, evaluation and drop recurse as deep as an expression is nested.
+//! `eval_int` give the value, as `Values` says, and take no memory; `split_word` cuts a text's first word off.
+//! `specs/Laws.antt` has what follows for every expression. Reading, evaluation and drop recurse as deep as an expression
+//! is nested.
 #![tactic(auto)]
 
 mod evaluate;
@@ -23,6 +24,7 @@ pub use kinds::{KindErr, kind_of};
 pub use laws::{an_expression_is_read_again, expressions_are_read_again, values_have_their_kinds};
 pub use read::{ExprErr, read_exprs, read_one, read_words};
 pub use spelling::read_expr;
+pub use texts::split_word;
 
 #[cfg(test)]
 mod tests;

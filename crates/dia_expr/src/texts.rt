@@ -48,8 +48,8 @@ fn run_len(text: &[u8]) -> usize
     n
 }
 
-/// The first word, and what stands behind it.
-fn split_word(text: &[u8]) -> Option<(&[u8], &[u8])>
+/// The first word, and what stands behind it; None where no word is left.
+pub fn split_word(text: &[u8]) -> Option<(&[u8], &[u8])>
     ensures none { IfNone result (words_in_text text.now ≡ []) }
     ensures word { IfSome result (λ split. words_in_text text.now ≡ split.0.now ∷ words_in_text split.1.now) }
     ensures shorter { IfSome result (λ split. length split.1.now < length text.now) }

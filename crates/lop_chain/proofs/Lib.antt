@@ -1,0 +1,4 @@
+pub mod RowLemmas
+pub mod SetLemmas
+pub mod TakeLemmas
+pub mod Thens

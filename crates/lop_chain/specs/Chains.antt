@@ -1,0 +1,8 @@
+-- The local lines of a chain.
+use Rattle.std.specs.Prelude.{List}
+use Rattle.dia_defs.specs.Scripts.{LocalOp}
+use Rattle.lop_chain.specs.Ops.{ops_in}
+use Rattle.lop_chain.specs.declared.chain.Chain.{Chain}
+
+abbrev pub chain_ops : Chain → List LocalOp
+chain_ops chain = ops_in chain.ops.items

@@ -1,0 +1,78 @@
+//! Several local lines, one after the other.
+ghost use Rattle.std.specs.Prelude.{◌≡◌, ◌≤◌, IfOk, vec_len, refl};
+ghost use Rattle.dia_defs.specs.Lists.{rows_through};
+ghost use Rattle.dia_defs.specs.Sound.{AreSoundOps};
+ghost use Rattle.lop_chain.specs.Ops.{ops_in, buffers_needed};
+ghost use Rattle.lop_chain.specs.OpLemmas.{made_sound};
+
+use crate::local_op::LocalOp;
+use crate::push::push_through;
+use crate::script_op::ScriptOp;
+use crate::sink::RowSink;
+use dia_edge::NoMemory;
+use dia_item::{RowBuf, RowRef};
+use std::alloc::Global;
+use std::sync::Wait;
+
+/// Local lines, one after the other, with a row buffer for each line that makes rows, had at the making of the chain:
+/// a push takes no memory.
+#[derive(Drop)]
+pub struct Chain {
+    ops: Vec<ScriptOp>,
+    buffers: Vec<RowBuf>,
+    ghost enough: { buffers_needed ops.items ≤ vec_len buffers },
+}
+
+/// A buffer for each of the lines that make rows.
+fn buffers_for(alloc: Global, ops: &[ScriptOp]) -> Result<Vec<RowBuf>, NoMemory>
+    ensures { IfOk result (λ buffers. vec_len buffers ≡ buffers_needed ops.now) }
+{
+    let mut buffers = Vec::new(alloc);
+    for op in ops {
+        if op.makes_rows() {
+            buffers.push(RowBuf::new(alloc)?)?;
+        }
+    }
+    Ok(buffers)
+}
+
+impl Chain {
+    ghost use Rattle.lop_chain.specs.Chains.{chain_ops};
+
+    /// A chain of these lines.
+    pub fn new(alloc: Global, ops: Vec<ScriptOp>) -> Result<Chain, NoMemory>
+        ensures { IfOk result (λ chain. chain_ops chain ≡ ops_in ops.items) }
+    {
+        let buffers = buffers_for(alloc, ops.as_slice())?;
+        Ok(Chain { ops, buffers })
+    }
+}
+
+impl LocalOp for Chain {
+    ghost use Rattle.lop_chain.specs.Chains.{chain_ops};
+
+    ghost fits = { λ x from to. AreSoundOps from (chain_ops x) to };
+
+    ghost makes = { λ x row rows. rows ≡ rows_through (chain_ops x) row };
+
+    fn push<R: Wait, S: RowSink>(
+        &mut self,
+        rt: &R,
+        row: RowRef<'_>,
+        desk: &mut S::Desk,
+        sink: &mut S,
+    ) -> Result<(), S::Refusal> {
+        push_through(
+            rt,
+            self.ops.as_slice(),
+            self.buffers.as_mut_slice(),
+            row,
+            desk,
+            sink,
+        )
+    }
+
+    ghost total = { λ x from to row h k. (rows_through (chain_ops x) row, refl) };
+
+    ghost sound = { λ x from to row rows h k e. made_sound (chain_ops x) from to row rows h k e };
+}

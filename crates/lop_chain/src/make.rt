@@ -1,0 +1,86 @@
+//! Rows that are made of a row.
+ghost use Rattle.std.specs.Prelude.{◌≡◌, ◌≤◌, ◌<◌, ◌+◌, ◌++◌, ◌∷◌, [], length, slice_get, slice_set, Some};
+ghost use Rattle.dia_defs.specs.declared.kind.Kind.TheVariants.{Int, Text};
+ghost use Rattle.dia_defs.specs.Rows.{kinds_of, longest_text, Fits};
+ghost use Rattle.dia_defs.specs.Values.{column as column_of, value_of, number_in, bytes_in};
+ghost use Rattle.dia_defs.specs.Scripts.{map_op};
+ghost use Rattle.dia_defs.specs.Sound.{HaveKinds, IsSoundOp, op_kinds};
+ghost use Rattle.dia_item.specs.Fields.{cell_of};
+ghost use Rattle.dia_item.specs.Lent.{row_in_ref};
+ghost use Rattle.lop_chain.specs.Ops.{exprs_in, values_of};
+
+use dia_expr::{Expr, eval};
+use dia_item::{Field, RowBuf, RowRef};
+
+/// The values of the expressions on a row, as further columns.
+fn append_values(exprs: &[Expr], row: RowRef<'_>, into: &mut RowBuf)
+    requires kinds { HaveKinds (kinds_of (row_in_ref row)) (exprs_in exprs.now) }
+    requires room { length into.old + length exprs.now ≤ 6 }
+    ensures { into.new ≡ into.old ++ values_of (exprs_in exprs.now) (row_in_ref row.entry) }
+{
+    let Some((expr, rest)) = exprs.split_first() else {
+        return;
+    };
+    eval(expr, row, into);
+    append_values(rest, row, into);
+}
+
+/// The row that a map makes, in place of what the buffer held.
+pub(crate) fn put_values(exprs: &[Expr], row: RowRef<'_>, into: &mut RowBuf)
+    requires { IsSoundOp (kinds_of (row_in_ref row)) (map_op (exprs_in exprs.now)) }
+    ensures row { into.new ≡ values_of (exprs_in exprs.now) (row_in_ref row.entry) }
+    ensures kinds { kinds_of into.new ≡ op_kinds (kinds_of (row_in_ref row.entry)) (map_op (exprs_in exprs.now)) }
+    ensures some { 0 < length into.new }
+{
+    into.clear();
+    append_values(exprs, row, into);
+}
+
+#[inline]
+fn push_field(field: Field<'_>, into: &mut RowBuf)
+    requires room { length into.old < 6 }
+    requires fits { Fits (cell_of field) }
+    ensures { into.new ≡ into.old ++ cell_of field.entry ∷ [] }
+{
+    match field {
+        Field::Int(n) => into.push_int(n),
+        Field::Text(t) => into.push_text(t),
+    }
+}
+
+/// The row with another field in a column, in place of what the buffer held.
+pub(crate) fn put_with(row: RowRef<'_>, column: usize, field: Field<'_>, into: &mut RowBuf)
+    requires column { column < length (row_in_ref row) }
+    requires fits { Fits (cell_of field) }
+    ensures row { into.new ≡ slice_set (row_in_ref row.entry) column (cell_of field.entry) }
+    ensures some { 0 < length into.new }
+{
+    into.clear();
+    for i in 0..row.columns() {
+        let next = if i == column { field } else { row.field(i) };
+        push_field(next, into);
+    }
+}
+
+/// The number in a column.
+pub(crate) fn number_at(row: RowRef<'_>, column: usize) -> u64
+    requires { slice_get (kinds_of (row_in_ref row)) column ≡ Some Int }
+    ensures { result ≡ number_in (value_of (column_of column) (row_in_ref row.entry)) }
+{
+    match row.field(column) {
+        Field::Int(n) => n,
+        Field::Text(_) => unreachable!(),
+    }
+}
+
+/// The bytes of the text in a column.
+pub(crate) fn text_at<'a>(row: RowRef<'a>, column: usize) -> &'a [u8]
+    requires { slice_get (kinds_of (row_in_ref row)) column ≡ Some Text }
+    ensures bytes { result.now ≡ bytes_in (value_of (column_of column) (row_in_ref row.entry)) }
+    ensures short { length result.now ≤ longest_text }
+{
+    match row.field(column) {
+        Field::Int(_) => unreachable!(),
+        Field::Text(t) => t,
+    }
+}
