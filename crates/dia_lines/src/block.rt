@@ -54,7 +54,10 @@ fn append_row(bytes: &mut Vec<u8>, front: &[u8], back: &[u8]) -> Result<(), NoMe
     let len = front.len() + back.len();
     bytes.reserve(4 + len)?;
     append(bytes, &(len as u32).to_le_bytes());
-    append(bytes, front);
+    // Nearly every line stands in one piece, and a copy of no bytes is a call too.
+    if !front.is_empty() {
+        append(bytes, front);
+    }
     append(bytes, back);
     Ok(())
 }
