@@ -3,12 +3,13 @@
 # reads the same bytes in the same folder; and scans 2,048 blocks front to back five times.
 # Wanted: at least half of dd's rate, and at most 55 of 100 pins from the disk.
 #
-# usage: bench/pool.sh [BLOCKS]   20,000 if left out, which are 1.3 GB; 100,000 are 6.5 GB. The file lies in $TMPDIR or
-#                                 /tmp. What fits into the system's cache is measured there, dd's bytes as the pool's.
+# usage: bench/pool.sh [BLOCKS [RUNS]]   20,000 blocks if left out, which are 1.3 GB; 100,000 are 6.5 GB. 5 runs if left
+#                                        out. The file lies in $TMPDIR or /tmp. What fits into the system's cache is
+#                                        measured there, dd's bytes as the pool's.
 . "$(dirname "$0")/common.sh"
 
 blocks=${1:-20000}
-runs=5
+runs=${2:-5}
 
 # The program is a test in a copy of the pool's crate: only there can one ask whether what a call requires holds.
 say "proving and building (some minutes where the pool's tests weren't proved before) ..."

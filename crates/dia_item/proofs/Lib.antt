@@ -5,3 +5,4 @@ pub mod LawLemmas
 pub mod TestLemmas
 pub mod KeyLemmas
 pub mod BufLemmas
+pub mod Walking

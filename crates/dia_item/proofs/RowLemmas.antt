@@ -1,5 +1,5 @@
 -- A row that is read is the row that was written.
-use Rattle.std.proofs.Common.{◌≡◌, ℕ, ◌+◌, ◌<◌, ◌≤◌, List, [], ◌∷◌, ◌++◌, length, take, drop, zero, suc, ◌-◌, Some, slice_get, refl, sym, ap, subst, ◌∙◌, append_assoc, append-nil, length-append, arith}
+use Rattle.std.proofs.Common.{◌≡◌, ℕ, ◌+◌, ◌≤◌, List, [], ◌∷◌, ◌++◌, length, take, drop, suc, Option, Some, None, IfSome, get_or, refl, sym, ap, subst, ◌∙◌, append_assoc, append-nil, length-append, arith}
 use Rattle.std.proofs.lemmas.List.{take_at, drop_at, take-append-drop}
 use Rattle.std.proofs.Math.Seq.{take-add}
 use Rattle.dia_defs.specs.declared.kind.Kind.{Kind}
@@ -96,17 +96,27 @@ front_of kind kinds bytes row h =
       rest = rw (back, row_is kinds h.3 h.1 h.5) h.5;
     }
 
-pub get_first : (kind : Kind) (kinds : List Kind) (bytes : List ℕ) → slice_get (row_of (kind ∷ kinds) bytes) 0 ≡ Some (cell_at kind bytes)
-unfolding row_of
-get_first kind kinds bytes = refl
-
-pub get_later :
-    (kind : Kind) (kinds : List Kind) (bytes : List ℕ) (i : ℕ) → 0 < i
-    → slice_get (row_of (kind ∷ kinds) bytes) i ≡ slice_get (row_of kinds (drop (cell_len kind bytes) bytes)) (i - 1)
-unfolding row_of
-get_later kind kinds bytes zero h = absurd (omega arith)
-get_later kind kinds bytes (suc i) h =
-    let e : i ≡ suc i - 1 = omega arith in ap (λ (j : ℕ). slice_get (row_of kinds (drop (cell_len kind bytes) bytes)) j) e
-
 pub front_is_row : (kinds : List Kind) (bytes : List ℕ) (n : ℕ) → IsRow kinds (take n bytes) (row_of kinds bytes) → IsRow kinds (take n bytes) (row_of kinds (take n bytes))
 front_is_row kinds bytes n h = rw (row_is kinds (take n bytes) (row_of kinds bytes) h) h
+
+one_kind : (kinds : List Kind) → length kinds ≡ 1 → kinds ≡ get_or kinds 0 Int ∷ []
+one_kind [] e = absurd (omega arith)
+one_kind (kind ∷ []) e = refl
+one_kind (kind ∷ other ∷ kinds) e = absurd (omega arith)
+
+only_row :
+    (kind : Kind) (bytes : List ℕ) (n : ℕ) → n ≡ cell_len kind bytes → IsField kind (take n bytes) (cell_at kind bytes)
+    → IsRow (kind ∷ []) (take n bytes) (row_of (kind ∷ []) bytes)
+unfolding row_of
+only_row kind bytes n e field = (cell_at kind bytes, [], take n bytes, [], field, (refl, refl), refl, sym (append-nil (take n bytes)))
+
+-- a field is a row of one column
+pub field_row :
+    (kinds : List Kind) (bytes : List ℕ) (found : Option ℕ) → length kinds ≡ 1
+    → IfSome found (λ n. (n ≤ length bytes) × (n ≡ cell_len (get_or kinds 0 Int) bytes))
+    → IfSome found (λ n. IsField (get_or kinds 0 Int) (take n bytes) (cell_at (get_or kinds 0 Int) bytes))
+    → IfSome found (λ n. IsRow kinds (take n bytes) (row_of kinds bytes))
+field_row kinds bytes None one len field = tt
+field_row kinds bytes (Some n) one len field =
+    let Is : List Kind → Type 0 = λ ks. IsRow ks (take n bytes) (row_of ks bytes) in
+    subst Is (sym (one_kind kinds one)) (only_row (get_or kinds 0 Int) bytes n len.1 field)

@@ -44,17 +44,24 @@ impl Kinds {
         Kinds { all, count: 1 }
     }
 
+    /// One more kind.
+    #[inline]
+    pub(crate) fn push(&mut self, kind: Kind)
+        requires { length (kind_list self.old) < 6 }
+        ensures { kind_list self.new ≡ kind_list self.old ++ kind ∷ [] }
+    {
+        self.all[self.count] = kind;
+        self.count += 1;
+    }
+
     /// These kinds and one more.
     pub fn and(&self, kind: Kind) -> Kinds
         requires { length (kind_list self.now) < 6 }
         ensures { kind_list result ≡ kind_list self.now ++ kind ∷ [] }
     {
-        let mut all = self.all;
-        all[self.count] = kind;
-        Kinds {
-            all,
-            count: self.count + 1,
-        }
+        let mut kinds = *self;
+        kinds.push(kind);
+        kinds
     }
 
     /// The kinds, in order.

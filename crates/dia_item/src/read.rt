@@ -54,8 +54,22 @@ fn field_len(kind: Kind, bytes: &[u8]) -> Option<usize>
     }
 }
 
-/// How many bytes the row at the front has; None where the bytes begin with no row of these kinds.
+/// How many bytes the row at the front has; None where the bytes begin with no row of these kinds. A row of one column,
+/// as a line is, takes the short way.
+#[inline]
 pub(crate) fn row_len(kinds: &[Kind], bytes: &[u8]) -> Option<usize>
+    ensures len { IfSome result (λ n. n ≤ length bytes.now) }
+    ensures found { IfSome result (λ n. IsRow kinds.now (take n bytes.now) (row_of kinds.now bytes.now)) }
+    ensures none { IfNone result ((row : Row) (n : ℕ) → IsRow kinds.now (take n bytes.now) row → ⊥) }
+{
+    match kinds {
+        [kind] => field_len(*kind, bytes),
+        _ => fields_len(kinds, bytes),
+    }
+}
+
+/// The same for any number of columns.
+fn fields_len(kinds: &[Kind], bytes: &[u8]) -> Option<usize>
     ensures len { IfSome result (λ n. n ≤ length bytes.now) }
     ensures found { IfSome result (λ n. IsRow kinds.now (take n bytes.now) (row_of kinds.now bytes.now)) }
     ensures none { IfNone result ((row : Row) (n : ℕ) → IsRow kinds.now (take n bytes.now) row → ⊥) }
@@ -67,7 +81,7 @@ pub(crate) fn row_len(kinds: &[Kind], bytes: &[u8]) -> Option<usize>
                 return None;
             };
             let (_, after) = bytes.split_at(first);
-            let Some(more) = row_len(rest, after) else {
+            let Some(more) = fields_len(rest, after) else {
                 return None;
             };
             Some(first + more)

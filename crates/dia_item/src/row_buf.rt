@@ -34,13 +34,14 @@ impl Model for RowBuf {
     ghost invariant = { HasRoom };
 }
 
-fn kinds_and(kinds: &Option<Kinds>, kind: Kind) -> Kinds
-    requires { length (kinds_in kinds.now) < 6 }
-    ensures { kind_list result ≡ kinds_in kinds.now ++ kind ∷ [] }
+#[inline]
+fn push_kind(kinds: &mut Option<Kinds>, kind: Kind)
+    requires { length (kinds_in kinds.old) < 6 }
+    ensures { kinds_in kinds.new ≡ kinds_in kinds.old ++ kind ∷ [] }
 {
     match kinds {
-        None => Kinds::one(kind),
-        Some(kinds) => kinds.and(kind),
+        None => *kinds = Some(Kinds::one(kind)),
+        Some(kinds) => kinds.push(kind),
     }
 }
 
@@ -103,7 +104,7 @@ impl RowBuf {
         requires { length self.old < 6 }
         ensures { self.new ≡ self.old ++ int v ∷ [] }
     {
-        self.kinds = Some(kinds_and(&self.kinds, Kind::Int));
+        push_kind(&mut self.kinds, Kind::Int);
         append_u64(&mut self.bytes, v);
     }
 
@@ -113,7 +114,7 @@ impl RowBuf {
         requires short { length t.now ≤ longest_text }
         ensures { self.new ≡ self.old ++ text t.now ∷ [] }
     {
-        self.kinds = Some(kinds_and(&self.kinds, Kind::Text));
+        push_kind(&mut self.kinds, Kind::Text);
         append_u32(&mut self.bytes, t.len() as u32);
         append(&mut self.bytes, t);
     }

@@ -1,5 +1,5 @@
 //! Rows that are borrowed.
-ghost use Rattle.std.specs.Prelude.{◌≡◌, ◌≤◌, ◌<◌, true, Some, length, slice_get};
+ghost use Rattle.std.specs.Prelude.{◌≡◌, ◌≤◌, ◌<◌, true, Some, length, drop, slice_get};
 ghost use Rattle.dia_defs.specs.Rows.{IsRow, kinds_of, Fits};
 ghost use Rattle.dia_item.specs.Reading.{row_of, is_row, has_row};
 ghost use Rattle.dia_item.specs.Sizes.{longest_row};
@@ -19,21 +19,32 @@ pub struct RowRef<'a> {
     ghost is_row: { is_row (kind_list kinds) bytes.now ≡ true },
 }
 
+/// The bytes from column `i` on.
+#[inline]
+fn from_column<'a>(kinds: &[Kind], bytes: &'a [u8], i: usize) -> &'a [u8]
+    requires is { has_row kinds.now bytes.now ≡ true }
+    requires within { i ≤ length kinds.now }
+    ensures has { has_row (drop i kinds.now) result.now ≡ true }
+    ensures row { row_of (drop i kinds.now) result.now ≡ drop i (row_of kinds.now bytes.now) }
+{
+    let mut rest = bytes;
+    for kind in &kinds[..i] {
+        let (_, after) = split_field(*kind, rest);
+        rest = after;
+    }
+    rest
+}
+
 /// Field `i` of the row at the front.
+#[inline]
 fn field_at<'a>(kinds: &[Kind], bytes: &'a [u8], i: usize) -> Field<'a>
     requires is { has_row kinds.now bytes.now ≡ true }
     requires within { i < length kinds.now }
     ensures value { slice_get (row_of kinds.now bytes.now) i ≡ Some (cell_of result) }
     ensures fits { Fits (cell_of result) }
 {
-    let Some((kind, others)) = kinds.split_first() else {
-        unreachable!()
-    };
-    let (field, rest) = split_field(*kind, bytes);
-    if i == 0 {
-        return field;
-    }
-    field_at(others, rest, i - 1)
+    let (field, _) = split_field(kinds[i], from_column(kinds, bytes, i));
+    field
 }
 
 // What the test that a `RowRef` keeps says of its bytes.
@@ -88,7 +99,7 @@ impl<'a> RowRef<'a> {
     }
 
     /// Column `i`, counted from 0.
-    #[inline]
+    #[inline(always)]
     pub fn field(&self, i: usize) -> Field<'a>
         requires { i < length (row_in_ref self.now) }
         ensures value { slice_get (row_in_ref self.now) i ≡ Some (cell_of result) }

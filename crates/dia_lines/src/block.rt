@@ -30,7 +30,7 @@ impl Model for Block {
 }
 
 // Bytes that there is room for.
-#[inline]
+#[inline(always)]
 fn append(bytes: &mut Vec<u8>, more: &[u8])
     requires { vec_len bytes.old + length more.now ≤ vec_capacity bytes.old }
     ensures items { bytes.new.items ≡ bytes.old.items ++ more.now }
@@ -44,7 +44,7 @@ fn append(bytes: &mut Vec<u8>, more: &[u8])
 }
 
 // The row of the text that is `front` and then `back`, where there is memory for it.
-#[inline]
+#[inline(always)]
 #[tactic(auto, unfolding(dia_defs::specs::Rows::bytes_of_u32))]
 fn append_row(bytes: &mut Vec<u8>, front: &[u8], back: &[u8]) -> Result<(), NoMemory>
     requires { length front.now + length back.now ≤ longest_text }
@@ -54,7 +54,10 @@ fn append_row(bytes: &mut Vec<u8>, front: &[u8], back: &[u8]) -> Result<(), NoMe
     let len = front.len() + back.len();
     bytes.reserve(4 + len)?;
     append(bytes, &(len as u32).to_le_bytes());
-    append(bytes, front);
+    // Nearly every line stands in one piece, and a copy of no bytes is a call too.
+    if !front.is_empty() {
+        append(bytes, front);
+    }
     append(bytes, back);
     Ok(())
 }
@@ -79,7 +82,7 @@ impl Block {
     }
 
     /// One more row, of the text that is `front` and then `back`.
-    #[inline]
+    #[inline(always)]
     pub(crate) fn push(&mut self, front: &[u8], back: &[u8]) -> Result<(), NoMemory>
         requires { length front.now + length back.now ≤ longest_text }
         ensures ok { OnOk result (self.new ≡ self.old ++ line_row (front.now ++ back.now) ∷ []) }

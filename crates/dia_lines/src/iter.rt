@@ -37,12 +37,6 @@ impl<'r> Iterator for Iter<'r> {
 
     #[inline]
     fn next(&mut self) -> Option<RowRef<'r>> {
-        match advance(&self.kinds, self.place) {
-            None => None,
-            Some((row, place)) => {
-                self.place = place;
-                Some(row)
-            }
-        }
+        advance(&self.kinds, &mut self.place)
     }
 }

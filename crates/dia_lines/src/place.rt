@@ -1,5 +1,5 @@
 //! A place among the rows.
-ghost use Rattle.std.specs.Prelude.{◌≡◌, ◌+◌, ◌-◌, ◌≤◌, ◌<◌, ◌++◌, ◌∷◌, [], length, IfSome, IfNone, drop};
+ghost use Rattle.std.specs.Prelude.{◌≡◌, ◌+◌, ◌-◌, ◌≤◌, ◌<◌, ◌++◌, ◌∷◌, [], length, IfSome, IfNone, IsTrue, false, drop};
 ghost use Rattle.dia_item.specs.KindList.{kind_list};
 ghost use Rattle.dia_item.specs.Lent.{row_in_ref};
 ghost use Rattle.dia_lines.specs.Blocks.{rows_of_blocks, rows_of_last};
@@ -67,55 +67,57 @@ fn at_full<'r>(full: &'r [Block], last: Option<&'r Block>) -> Option<Place<'r>>
     }
 }
 
-/// The same place, in a block that has rows left.
+/// Goes to a block that has rows left, where the one that is read has none; false where there is no such block.
+#[inline(never)]
 #[tactic(auto, unfolding(crate::specs::Texts::rows_from))]
-fn filled<'r>(place: Place<'r>) -> Option<Place<'r>>
-    requires { HoldsAt place }
-    ensures some { IfSome result (λ p. (0 < p.left) × HoldsAt p × (rows_at p ≡ rows_at place.entry)) }
-    ensures none { IfNone result (rows_at place.entry ≡ []) }
+fn turn_over(place: &mut Place<'_>) -> bool
+    requires done { place.old.left ≡ 0 }
+    requires holds { HoldsAt place.old }
+    ensures some { IsTrue result → 0 < place.new.left }
+    ensures rows { rows_at place.new ≡ rows_at place.old }
+    ensures holds { HoldsAt place.new }
+    ensures none { result ≡ false → rows_at place.old ≡ [] }
 {
-    if place.left > 0 {
-        return Some(place);
+    match at_full(place.full, place.last) {
+        None => false,
+        Some(next) => {
+            *place = next;
+            true
+        }
     }
-    at_full(place.full, place.last)
 }
 
-/// The next row, and the place behind it.
-fn read_front<'r>(kinds: &Kinds, place: Place<'r>) -> (RowRef<'r>, Place<'r>)
+/// Takes the next row.
+#[inline(always)]
+fn take_front<'r>(kinds: &Kinds, place: &mut Place<'r>) -> RowRef<'r>
     requires kinds { kind_list kinds.now ≡ one_text }
-    requires some { 0 < place.left }
-    requires holds { HoldsAt place }
-    ensures row { rows_at place.entry ≡ row_in_ref result.0 ∷ rows_at result.1 }
-    ensures holds { HoldsAt result.1 }
+    requires some { 0 < place.old.left }
+    requires holds { HoldsAt place.old }
+    ensures row { rows_at place.old ≡ row_in_ref result ∷ rows_at place.new }
+    ensures holds { HoldsAt place.new }
 {
     match read_row(kinds, place.rest) {
         None => unreachable!(),
         Some((row, len)) => {
             let (_, rest) = place.rest.split_at(len);
-            (
-                row,
-                Place {
-                    rest,
-                    left: place.left - 1,
-                    full: place.full,
-                    last: place.last,
-                },
-            )
+            place.rest = rest;
+            place.left -= 1;
+            row
         }
     }
 }
 
-/// The next row, and the place behind it; None at the end.
+/// Takes the next row; None at the end.
 #[inline]
-pub(crate) fn advance<'r>(kinds: &Kinds, place: Place<'r>) -> Option<(RowRef<'r>, Place<'r>)>
+pub(crate) fn advance<'r>(kinds: &Kinds, place: &mut Place<'r>) -> Option<RowRef<'r>>
     requires kinds { kind_list kinds.now ≡ one_text }
-    requires holds { HoldsAt place }
-    ensures row { IfSome result (λ f. rows_at place.entry ≡ row_in_ref f.0 ∷ rows_at f.1) }
-    ensures holds { IfSome result (λ f. HoldsAt f.1) }
-    ensures none { IfNone result (rows_at place.entry ≡ []) }
+    requires holds { HoldsAt place.old }
+    ensures row { IfSome result (λ row. rows_at place.old ≡ row_in_ref row ∷ rows_at place.new) }
+    ensures holds { HoldsAt place.new }
+    ensures none { IfNone result ((rows_at place.old ≡ []) × (rows_at place.new ≡ [])) }
 {
-    match filled(place) {
-        None => None,
-        Some(place) => Some(read_front(kinds, place)),
+    if place.left == 0 && !turn_over(place) {
+        return None;
     }
+    Some(take_front(kinds, place))
 }

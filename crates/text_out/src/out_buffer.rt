@@ -30,7 +30,7 @@ impl Model for OutBuffer {
 }
 
 // Bytes that there is room for.
-#[inline]
+#[inline(always)]
 fn append(bytes: &mut Vec<u8>, more: &[u8])
     requires { vec_len bytes.old + length more.now ≤ vec_capacity bytes.old }
     ensures items { bytes.new.items ≡ bytes.old.items ++ more.now }
@@ -74,6 +74,8 @@ impl OutBuffer {
     }
 
     /// Puts what waits and then the bytes, which are too many to wait with it.
+    #[cold]
+    #[inline(never)]
     fn push_past<S: Sink>(&mut self, out: &mut S, bytes: &[u8]) -> Result<(), Failed>
         ensures ok { OnOk result (CarriesOn (S.taken out.old) self.old bytes.now (S.taken out.new) self.new) }
         ensures failed { OnErr result (TookFront (S.taken out.old) (self.old ++ bytes.now) (S.taken out.new)) }
@@ -93,7 +95,7 @@ impl OutBuffer {
     }
 
     /// Takes the bytes; what doesn't fit goes to the sink.
-    #[inline]
+    #[inline(always)]
     pub fn push<S: Sink>(&mut self, out: &mut S, bytes: &[u8]) -> Result<(), Failed>
         ensures ok { OnOk result (CarriesOn (S.taken out.old) self.old bytes.now (S.taken out.new) self.new) }
         ensures failed { OnErr result (TookFront (S.taken out.old) (self.old ++ bytes.now) (S.taken out.new)) }

@@ -1,6 +1,6 @@
 //! The text of a row.
 ghost use Rattle.std.specs.Prelude.{◌≡◌, ◌≤◌, ◌<◌, ◌+◌, ◌++◌, ◌∷◌, [], length, take, drop, Some, slice_get, OnOk, OnErr, is_some};
-ghost use Rattle.dia_defs.specs.Rows.{Cell};
+ghost use Rattle.dia_defs.specs.Rows.{Cell, int};
 ghost use Rattle.dia_defs.specs.Runs.{cell_text, row_text};
 ghost use Rattle.dia_edge.specs.Counts.{HasRisen};
 ghost use Rattle.dia_edge.specs.Sinks.{TookFront};
@@ -12,6 +12,19 @@ ghost use Rattle.text_out.specs.Columns.{next_text, nexts_text};
 use crate::out_buffer::OutBuffer;
 use dia_edge::{Failed, Sink};
 use dia_item::{Field, RowRef};
+
+/// A number in decimal.
+#[inline(never)]
+fn push_int<S: Sink>(buffer: &mut OutBuffer, out: &mut S, v: u64) -> Result<(), Failed>
+    ensures ok { OnOk result (CarriesOn (S.taken out.old) buffer.old (cell_text (int v)) (S.taken out.new) buffer.new) }
+    ensures failed { OnErr result (TookFront (S.taken out.old) (buffer.old ++ cell_text (int v)) (S.taken out.new)) }
+    ensures rose { OnErr result (HasRisen (S.faults out.old) (S.faults out.new)) }
+    ensures counts { S.faults out.old ≤ S.faults out.new }
+    ensures tells { is_some (S.taken out.new) ≡ is_some (S.taken out.old) }
+{
+    let mut digits = itoa::Buffer::new();
+    buffer.push(out, digits.format(v).as_bytes())
+}
 
 /// A number in decimal, a text as its bytes.
 #[inline]
@@ -27,10 +40,7 @@ pub fn push_field<S: Sink>(
     ensures tells { is_some (S.taken out.new) ≡ is_some (S.taken out.old) }
 {
     match field {
-        Field::Int(v) => {
-            let mut digits = itoa::Buffer::new();
-            buffer.push(out, digits.format(v).as_bytes())
-        }
+        Field::Int(v) => push_int(buffer, out, v),
         Field::Text(t) => buffer.push(out, t),
     }
 }
@@ -51,9 +61,9 @@ fn push_next<S: Sink>(buffer: &mut OutBuffer, out: &mut S, field: Field<'_>) -> 
 }
 
 /// The columns behind the first, each behind a TAB.
-fn push_nexts<S: Sink>(buffer: &mut OutBuffer, out: &mut S, row: RowRef<'_>) -> Result<(), Failed>
-    ensures ok { OnOk result (CarriesOn (S.taken out.old) buffer.old (nexts_text (drop 1 (row_in_ref row.entry))) (S.taken out.new) buffer.new) }
-    ensures failed { OnErr result (TookFront (S.taken out.old) (buffer.old ++ nexts_text (drop 1 (row_in_ref row.entry))) (S.taken out.new)) }
+fn push_nexts<S: Sink>(buffer: &mut OutBuffer, out: &mut S, row: &RowRef<'_>) -> Result<(), Failed>
+    ensures ok { OnOk result (CarriesOn (S.taken out.old) buffer.old (nexts_text (drop 1 (row_in_ref row.now))) (S.taken out.new) buffer.new) }
+    ensures failed { OnErr result (TookFront (S.taken out.old) (buffer.old ++ nexts_text (drop 1 (row_in_ref row.now))) (S.taken out.new)) }
     ensures rose { OnErr result (HasRisen (S.faults out.old) (S.faults out.new)) }
     ensures counts { S.faults out.old ≤ S.faults out.new }
     ensures tells { is_some (S.taken out.new) ≡ is_some (S.taken out.old) }
@@ -80,7 +90,7 @@ pub fn push_row<S: Sink>(buffer: &mut OutBuffer, out: &mut S, row: RowRef<'_>) -
         Ok(()) => {}
         Err(e) => return Err(e),
     }
-    match push_nexts(buffer, out, row) {
+    match push_nexts(buffer, out, &row) {
         Ok(()) => {}
         Err(e) => return Err(e),
     }

@@ -10,7 +10,7 @@ use Rattle.text_out.proofs.row_text.push_nexts.Goals as goal
 
 pub returns-in-Err-clause-failed : goal.returns-in-Err-clause-failed
 returns-in-Err-clause-failed g c =
-    let row = row_in_ref c.args.row in
+    let row = row_in_ref c.args.row.now in
     let i = c.loop-i.i in
     let before = g.S.Sink.taken c.args.out.now in
     let after = g.S.Sink.taken c.push_next.new.out in
@@ -23,7 +23,7 @@ returns-in-Err-clause-failed g c =
 
 pub loop-i-preserved : goal.loop-i-preserved
 loop-i-preserved g c =
-    let row = row_in_ref c.args.row in
+    let row = row_in_ref c.args.row.now in
     let i = c.loop-i.i in
     let before = g.S.Sink.taken c.args.out.now in
     let after = g.S.Sink.taken c.push_next.new.out in

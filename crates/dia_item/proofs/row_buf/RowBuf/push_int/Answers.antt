@@ -1,4 +1,4 @@
-use Rattle.std.proofs.Common.{arith, refl, ap, ◌∙◌, [], ◌∷◌, ◌++◌, length, Some}
+use Rattle.std.proofs.Common.{arith, refl, ap, ◌∙◌, [], ◌∷◌, ◌++◌, length}
 use Rattle.dia_defs.specs.declared.kind.Kind.TheVariants.{Int}
 use Rattle.dia_item.specs.declared.row_buf.RowBuf.TheInside.{Inside}
 use Rattle.dia_item.specs.KindList.{kinds_in}
@@ -9,11 +9,11 @@ use Rattle.dia_item.proofs.BufLemmas.{Grown, grown_row, grown_room}
 use Rattle.dia_item.proofs.row_buf.RowBuf.push_int.Goals as goal
 
 abbrev after : goal.After-append_u64 → Inside
-after c = record { kinds = Some c.kinds_and.result; bytes = c.append_u64.new.bytes }
+after c = record { kinds = c.push_kind.new.kinds; bytes = c.append_u64.new.bytes }
 
 grown : (c : goal.After-append_u64) → Grown c.self.inside Int (bytes_of_u64 c.args.v) (int c.args.v) (after c)
 grown c = record {
-  kinds = c.kinds_and.ensures;
+  kinds = c.push_kind.ensures;
   items = c.append_u64.ensures.items;
   capacity = c.append_u64.ensures.capacity;
   field = (omega arith, refl);

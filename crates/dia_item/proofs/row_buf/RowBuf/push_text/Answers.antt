@@ -1,4 +1,4 @@
-use Rattle.std.proofs.Common.{arith, refl, ap, ◌∙◌, List, [], ◌∷◌, ◌++◌, ℕ, length, append_assoc, length-append, Some}
+use Rattle.std.proofs.Common.{arith, refl, ap, ◌∙◌, List, [], ◌∷◌, ◌++◌, ℕ, length, append_assoc, length-append}
 use Rattle.dia_defs.specs.declared.kind.Kind.TheVariants.{Text}
 use Rattle.dia_item.specs.declared.row_buf.RowBuf.TheInside.{Inside}
 use Rattle.dia_item.specs.KindList.{kinds_in}
@@ -9,11 +9,11 @@ use Rattle.dia_item.proofs.BufLemmas.{Grown, grown_row, grown_room}
 use Rattle.dia_item.proofs.row_buf.RowBuf.push_text.Goals as goal
 
 abbrev after : goal.After-append → Inside
-after c = record { kinds = Some c.kinds_and.result; bytes = c.append.new.bytes }
+after c = record { kinds = c.push_kind.new.kinds; bytes = c.append.new.bytes }
 
 grown : (c : goal.After-append) → Grown c.self.inside Text (bytes_of_u32 (length c.args.t.now) ++ c.args.t.now) (text c.args.t.now) (after c)
 grown c = record {
-  kinds = c.kinds_and.ensures;
+  kinds = c.push_kind.ensures;
   items = c.append.ensures.items ∙ ap (λ (xs : List ℕ). xs ++ c.args.t.now) c.append_u32.ensures.items ∙ append_assoc c.self.inside.bytes.items (bytes_of_u32 (length c.args.t.now)) c.args.t.now;
   capacity = omega (arith, c.append.ensures.capacity, c.append_u32.ensures.capacity);
   field = (c.requires.short, refl);

@@ -1,4 +1,0 @@
-use Rattle.dia_item.proofs.row_ref.+field_at.Given as goal
-
-abbrev pub decreases-field_at : goal.decreases-field_at
-decreases-field_at l = l.i
