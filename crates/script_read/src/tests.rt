@@ -40,7 +40,7 @@ fn scripts_are_accepted(rt: HostRuntime) -> Result<(), Fail> {
 
 #[test]
 fn scripts_are_refused(rt: HostRuntime) -> Result<(), Fail> {
-    let scripts: [(&[u8], Option<ReadErr>); 23] = [
+    let scripts: [(&[u8], Option<ReadErr>); 22] = [
         (b"t = lines", bad(1, Cause::BadForm)),
         (b"t = lines in out", bad(1, Cause::BadForm)),
         (b"t =", bad(1, Cause::BadForm)),
@@ -63,10 +63,6 @@ fn scripts_are_refused(rt: HostRuntime) -> Result<(), Fail> {
         (b"t = zork 1", bad(1, Cause::UnknownWord)),
         (b"t = print t", bad(1, Cause::UnknownWord)),
         (b"t = lines in\nm = map t f9 g", bad(2, Cause::UnknownWord)),
-        (
-            b"t = lines in\nprint t\nprint t",
-            bad(3, Cause::UnknownWord),
-        ),
         (b"t = lines in\nm = map t f0 f1\n", bad(2, Cause::BadColumn)),
         (
             b"t = lines in\nm = map t f0 f0 f0 f0 f0 f0 f0\n",
