@@ -154,6 +154,10 @@ abbrev pub exprs_without : Option Cause → List (List ℕ) → List Expr
 exprs_without None words = unwrap_or (exprs_of words) []
 exprs_without (Some cause) words = []
 
+-- the expressions of a line, where none of their words is refused
+abbrev pub exprs_in : Word → List (List ℕ) → List Expr
+exprs_in word args = exprs_without (exprs_fault word (expr_words word args)) (expr_words word args)
+
 -- what a line says behind its word: the operand's line, a number, a column, expressions, and an input's name
 pub record Said : Type 0 where
   pub of : ℕ
@@ -167,7 +171,7 @@ said_in of word args = record {
   of = of;
   number = value_in (number_word word args);
   column = value_in (column_word word args);
-  exprs = exprs_without (exprs_fault word (expr_words word args)) (expr_words word args);
+  exprs = exprs_in word args;
   input = unwrap_or (slice_get args 0) [];
 }
 

@@ -10,21 +10,18 @@ use Rattle.dia_defs.specs.declared.cause.Cause.TheVariants.{ScriptLong, LineLong
 use Rattle.dia_defs.specs.declared.word.Word.{Word}
 use Rattle.dia_defs.specs.declared.word.Word.TheVariants.{Filter, FlatMap}
 use Rattle.dia_defs.specs.Pieces.{lines_of, words_of}
-use Rattle.dia_defs.specs.Texts.{number_spelled, number_or_0}
+use Rattle.dia_defs.specs.Texts.{is_decimal, number_spelled, number_or_0}
 use Rattle.dia_defs.specs.Values.{Expr, column, is_int, is_text, expr_kind, lacks_column}
 use Rattle.dia_defs.specs.Scripts.{Statement, line, act, Script}
-use Rattle.dia_defs.specs.Forms.{statement_word, action_word, selector_in, fits_count, operand_words, number_word, is_in_range, column_word, column_kind, expr_words, exprs_fault, exprs_without, said_in, statement_of, result_kinds}
+use Rattle.dia_defs.specs.Forms.{statement_word, action_word, selector_in, fits_count, operand_words, number_word, is_in_range, column_word, column_kind, expr_words, exprs_fault, exprs_in, said_in, statement_of, result_kinds}
 
 -- words ------------------------------------------------------------------------------------------------------
 
 abbrev pub is_lower : ℕ → Bool
 is_lower b = nat_le 97 b && nat_le b 122
 
-abbrev pub is_digit : ℕ → Bool
-is_digit b = nat_le 48 b && nat_le b 57
-
 abbrev pub is_name_byte : ℕ → Bool
-is_name_byte b = is_lower b || is_digit b || b == 95
+is_name_byte b = is_lower b || is_decimal b || b == 95
 
 -- a lower-case letter, and up to 31 lower-case letters, digits and `_`
 abbrev pub is_name : List ℕ → Bool
@@ -42,7 +39,7 @@ is_skipped_words ((b ∷ word) ∷ words) = b == 35
 
 -- `f` and one digit is a column
 abbrev pub expr_of : List ℕ → Option Expr
-expr_of (b ∷ digit ∷ []) = if b == 102 && is_digit digit then Some (column (digit - 48)) else None
+expr_of (b ∷ digit ∷ []) = if b == 102 && is_decimal digit then Some (column (digit - 48)) else None
 expr_of _ = None
 
 -- the parts of a line: the name before `=`, the statement or action word, and the words after it
@@ -99,11 +96,7 @@ abbrev pub kinds_in : Option Earlier → List Kind
 kinds_in None = []
 kinds_in (Some e) = e.kinds
 
--- the expressions of a line, where none of their words is refused
-abbrev pub exprs_in : Word → List (List ℕ) → List Expr
-exprs_in word args = exprs_without (exprs_fault word (expr_words word args)) (expr_words word args)
-
--- why their words are refused
+-- why the words of expressions are refused
 abbrev pub fault_in : Option Word → List (List ℕ) → Option Cause
 fault_in None args = None
 fault_in (Some word) args = exprs_fault word (expr_words word args)

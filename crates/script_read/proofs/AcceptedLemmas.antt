@@ -13,8 +13,8 @@ use Rattle.dia_defs.specs.Texts.{number_spelled, number_or_0}
 use Rattle.dia_defs.specs.Values.{Expr, is_int, is_text, expr_kind}
 use Rattle.dia_defs.specs.Expressions as spelling
 use Rattle.dia_defs.specs.Expressions.{Beginning, beginning_of, whole, with_one, with_two, with_three, onto, exprs_of, begins_none, list_fault, number_fault}
-use Rattle.dia_defs.specs.Forms.{fits_count, exprs_without, value_in, first_expr}
-use Rattle.dia_defs.specs.Reading.{Known, Sentence, Test, first_cause, word_tests, is_printable, is_bad_form, is_unknown_word, is_bad_number, has_bad_name, has_bad_count, fault_in, exprs_in, is_outside, is_number_outside, is_kind, is_other_kind, is_one_int}
+use Rattle.dia_defs.specs.Forms.{fits_count, exprs_without, value_in, first_expr, exprs_in}
+use Rattle.dia_defs.specs.Reading.{Known, Sentence, Test, first_cause, word_tests, is_printable, is_bad_form, is_unknown_word, is_bad_number, has_bad_name, has_bad_count, fault_in, is_outside, is_number_outside, is_kind, is_other_kind, is_one_int}
 use Rattle.script_read.specs.Accepting.{IsAccepted}
 
 abbrev none_apply : List Test → Type 0

@@ -10,8 +10,8 @@ use Rattle.dia_defs.specs.declared.word.Selector.{Selector}
 use Rattle.dia_defs.specs.declared.word.Selector.TheVariants.{Words, Spread}
 use Rattle.dia_defs.specs.Values.{Expr, expr_kind}
 use Rattle.dia_defs.specs.Scripts.{LocalOp, map_op, filter_op, words_op, spread_op, local_form, most_numbers, Action, print_action, size_action, sum_action, action_operand, Statement, line, act}
-use Rattle.dia_defs.specs.Forms.{fits_selector, selector_in, selected_kind, selected_op, column_word, column_kind, is_in_range, value_in, first_expr, said_in}
-use Rattle.dia_defs.specs.Reading.{Earlier, Known, earlier_named, line_named, operand_in, number_of, kinds_in, exprs_in, statement_in, kinds_of_line, is_outside, is_other_kind, is_one_int, have_no_kinds, has_bad_kind_on}
+use Rattle.dia_defs.specs.Forms.{fits_selector, selector_in, selected_kind, selected_op, column_word, column_kind, is_in_range, value_in, first_expr, said_in, exprs_in}
+use Rattle.dia_defs.specs.Reading.{Earlier, Known, earlier_named, line_named, operand_in, number_of, kinds_in, statement_in, kinds_of_line, is_outside, is_other_kind, is_one_int, have_no_kinds, has_bad_kind_on}
 use Rattle.dia_defs.specs.Sound.{earlier_numbered, kinds_of_earlier, HaveKinds, IsSoundOp, op_kinds, IsSoundAction, IsSoundStatement, statement_kinds}
 use Rattle.script_read.specs.Accepting.{IsAccepted}
 use Rattle.script_read.proofs.FindingLemmas.{IsNumbered}

@@ -3,8 +3,8 @@ ghost use Rattle.std.specs.Prelude.{◌≡◌, true, None, Some, is_none, length
 ghost use Rattle.std.specs.List.{list_all, list_any};
 ghost use Rattle.std.specs.Option.{option_map};
 ghost use Rattle.dia_defs.specs.Values.{expr_kind, lacks_column};
-ghost use Rattle.dia_defs.specs.Forms.{is_in_range, number_word, column_word, column_kind};
-ghost use Rattle.dia_defs.specs.Reading.{exprs_in, fault_in, is_printable, is_bad_form, is_unknown_word, is_bad_number, has_bad_name, has_bad_count, has_bad_form, has_unknown_name, has_taken_name, has_unknown_selector, has_unknown_word, is_outside, has_bad_number, is_no_column, lack_columns, has_bad_column_on, has_bad_column, is_kind, is_other_kind, is_one_int, have_no_kinds, has_bad_kind_on, has_bad_kind, has_too_many_columns, first_cause, word_tests, earlier_named};
+ghost use Rattle.dia_defs.specs.Forms.{is_in_range, number_word, column_word, column_kind, exprs_in};
+ghost use Rattle.dia_defs.specs.Reading.{fault_in, is_printable, is_bad_form, is_unknown_word, is_bad_number, has_bad_name, has_bad_count, has_bad_form, has_unknown_name, has_taken_name, has_unknown_selector, has_unknown_word, is_outside, has_bad_number, is_no_column, lack_columns, has_bad_column_on, has_bad_column, is_kind, is_other_kind, is_one_int, have_no_kinds, has_bad_kind_on, has_bad_kind, has_too_many_columns, first_cause, word_tests, earlier_named};
 ghost use Rattle.dia_expr.specs.Exprs.{expr_in};
 ghost use Rattle.dia_item.specs.KindList.{kind_list};
 ghost use Rattle.script_read.specs.Knowing.{known_in, earlier_at, kind_at};

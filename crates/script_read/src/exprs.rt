@@ -1,8 +1,7 @@
 //! The expressions of a line.
 ghost use Rattle.std.specs.Prelude.{◌≡◌, None, Some, map, unwrap_or, [], IfOk, IfErr};
 ghost use Rattle.dia_defs.specs.Expressions.{exprs_of, one_fault};
-ghost use Rattle.dia_defs.specs.Forms.{expr_words, exprs_fault};
-ghost use Rattle.dia_defs.specs.Reading.{exprs_in};
+ghost use Rattle.dia_defs.specs.Forms.{expr_words, exprs_fault, exprs_in};
 ghost use Rattle.dia_expr.specs.Exprs.{expr_in};
 ghost use Rattle.dia_expr.specs.Reads.{IsFault};
 ghost use Rattle.script_read.specs.Sentences.{words_in};

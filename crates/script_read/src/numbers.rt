@@ -6,7 +6,7 @@ ghost use Rattle.dia_defs.specs.Texts.{is_decimal, number_spelled};
 ghost use Rattle.dia_defs.specs.Forms.{value_in};
 ghost use Rattle.script_read.specs.Sentences.{bytes_in};
 
-fn is_digit(b: u8) -> bool
+pub(crate) fn is_digit(b: u8) -> bool
     ensures { result ≡ is_decimal b }
 {
     48 <= b && b <= 57

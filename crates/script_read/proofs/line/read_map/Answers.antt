@@ -1,7 +1,7 @@
 use Rattle.std.proofs.Common.{◌≡◌, length, ap, sym, ◌∙◌, arith}
 use Rattle.std.proofs.lemmas.List.{length-map}
+use Rattle.dia_defs.specs.Forms.{exprs_in}
 use Rattle.dia_defs.specs.declared.word.Word.TheVariants.{Map}
-use Rattle.dia_defs.specs.Reading.{exprs_in}
 use Rattle.dia_expr.specs.Exprs.{expr_in}
 use Rattle.script_read.specs.Knowing.{known_in}
 use Rattle.script_read.specs.Sentences.{words_in}
