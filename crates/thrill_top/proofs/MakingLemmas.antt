@@ -35,14 +35,14 @@ made_under script (x ∷ lines) (m ∷ table) n e are is =
     let Under : ℕ → Type 0 = λ k. find (with_number n) (m ∷ table) ≡ cond (eqb k n) (Some m) (find (with_number n) table) in
     let first : find (with_number n) (m ∷ table) ≡ cond (eqb x.number n) (Some m) (find (with_number n) table) = subst Under are.0.0 refl in
     elim (eqb x.number n) as (λ t. eqb x.number n ≡ t → cond t (Some x) (find (λ (y : Earlier). eqb y.number n) lines) ≡ Some e
-        → find (with_number n) (m ∷ table) ≡ cond t (Some m) (find (with_number n) table) → IsUnder script (m ∷ table) n e) [
+    → find (with_number n) (m ∷ table) ≡ cond t (Some m) (find (with_number n) table) → IsUnder script (m ∷ table) n e) [
       | true ↦ λ same found here. (
-        let one : x ≡ e = some_earlier x e found in
-        let Is : Earlier → Type 0 = λ y. IsMadeOf script y m in
-        record { made = m; found = here; is = subst Is one are.0; number = ap (λ (y : Earlier). y.number) (sym one) ∙ eqb-true x.number n same })
+          let one : x ≡ e = some_earlier x e found in
+          let Is : Earlier → Type 0 = λ y. IsMadeOf script y m in
+          record { made = m; found = here; is = subst Is one are.0; number = ap (λ (y : Earlier). y.number) (sym one) ∙ eqb-true x.number n same })
       | false ↦ λ other found here. (
-        let u = made_under script lines table n e are.1 found in
-        record { made = u.made; found = here ∙ u.found; is = u.is; number = u.number })
+          let u = made_under script lines table n e are.1 found in
+          record { made = u.made; found = here ∙ u.found; is = u.is; number = u.number })
     ] refl is first
 
 -- the line that a map names has its chain

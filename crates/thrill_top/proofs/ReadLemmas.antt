@@ -97,7 +97,7 @@ reading_cut bytes asked is =
     elim (ltb (length bytes) asked) as (λ t. ltb (length bytes) asked ≡ t → reading_of (take asked bytes) ≡ reading_of bytes) [
       | true ↦ λ e. ap reading_of (take_all asked bytes (let less = ltb-true (length bytes) asked e in omega (arith, less)))
       | false ↦ λ e.
-        let low = ltb-false (length bytes) asked e in
-        let cut : length (take asked bytes) ≡ asked = (let long = length-take asked bytes in omega (arith, long, low)) in
-        long_reading (take asked bytes) (omega (arith, cut, is)) ∙ sym (long_reading bytes (omega (arith, low, is)))
+          let low = ltb-false (length bytes) asked e in
+          let cut : length (take asked bytes) ≡ asked = (let long = length-take asked bytes in omega (arith, long, low)) in
+          long_reading (take asked bytes) (omega (arith, cut, is)) ∙ sym (long_reading bytes (omega (arith, low, is)))
     ] refl

@@ -78,12 +78,12 @@ pub kept_listed : (lists : Lists) (kept : List Kept) (n : ℕ) (rows : List Row)
 kept_listed lists [] n rows all is = let wrong : ⊥ = cc in absurd wrong
 kept_listed lists (k ∷ kept) n rows all is =
     elim (eqb k.number n) as (λ t. eqb k.number n ≡ t → option_map (λ (x : Kept). x.rows) (cond t (Some k) (find (λ (x : Kept). eqb x.number n) kept)) ≡ Some rows
-        → (lists n ≡ Some rows) × (length rows ≤ longest_input)) [
+    → (lists n ≡ Some rows) × (length rows ≤ longest_input)) [
       | true ↦ λ same e.
-        let is_rows : k.rows ≡ rows = some_rows k.rows rows e in
-        let At : ℕ → Type 0 = λ m. lists m ≡ Some k.rows in
-        let Short : List Row → Type 0 = λ rs. length rs ≤ longest_input in
-        (subst At (eqb-true k.number n same) all.0.0 ∙ ap Some is_rows, subst Short is_rows all.0.1)
+          let is_rows : k.rows ≡ rows = some_rows k.rows rows e in
+          let At : ℕ → Type 0 = λ m. lists m ≡ Some k.rows in
+          let Short : List Row → Type 0 = λ rs. length rs ≤ longest_input in
+          (subst At (eqb-true k.number n same) all.0.0 ∙ ap Some is_rows, subst Short is_rows all.0.1)
       | false ↦ λ other e. kept_listed lists kept n rows all.1 e
     ] refl is
 
@@ -91,7 +91,7 @@ kept_push_old : (kept : List Kept) (k : Kept) (n : ℕ) → IsSome (kept_at kept
 kept_push_old [] k n some = absurd (true≢false (sym some))
 kept_push_old (x ∷ kept) k n some =
     elim (eqb x.number n) as (λ t. IsSome (option_map (λ (y : Kept). y.rows) (cond t (Some x) (find (λ (y : Kept). eqb y.number n) kept)))
-        → IsSome (option_map (λ (y : Kept). y.rows) (cond t (Some x) (find (λ (y : Kept). eqb y.number n) (kept ++ k ∷ []))))) [
+    → IsSome (option_map (λ (y : Kept). y.rows) (cond t (Some x) (find (λ (y : Kept). eqb y.number n) (kept ++ k ∷ []))))) [
       | true ↦ λ e. refl
       | false ↦ λ e. kept_push_old kept k n e
     ] some
@@ -334,10 +334,10 @@ local_keeps script n of op name kept here = λ done left work are. record {
       elim (has_cases (lines_among done) (n ∷ []) l (subst Has (lines_push_line done n) has)) [
         | inl e ↦ are.there l defined input e is
         | inr e ↦
-          let At : ℕ → Type 0 = λ m. statement_at script m ≡ Some (line name (local_form of op)) in
-          let same : local_form of op ≡ lines_form input = some_form name defined (local_form of op) (lines_form input) (sym (subst At (is_one n l e) here) ∙ is) in
-          let wrong : ⊥ = cc in
-          absurd wrong
+            let At : ℕ → Type 0 = λ m. statement_at script m ≡ Some (line name (local_form of op)) in
+            let same : local_form of op ≡ lines_form input = some_form name defined (local_form of op) (lines_form input) (sym (subst At (is_one n l e) here) ∙ is) in
+            let wrong : ⊥ = cc in
+            absurd wrong
       ];
   lines = are.lines;
 }

@@ -153,8 +153,6 @@ pub(crate) fn do_item<N: Shelf, S: Sink>(
 {
     match item {
         Item::Line(number) => do_line(alloc, script, number, kept, shelf),
-        Item::Action(number) => {
-            do_action(alloc, script, chains, number, kept.as_slice(), out)
-        }
+        Item::Action(number) => { do_action(alloc, script, chains, number, kept.as_slice(), out) }
     }
 }
