@@ -30,6 +30,7 @@ fn run(rt: HostRuntime) -> Result<u8, NoMemory> {
     let mut err = StdSink::err(rt);
     let disk = MemDisk::new(alloc, Vec::new(alloc));
     let end = thrill_call(
+        &rt,
         alloc,
         words.as_slice(),
         &mut shelf,

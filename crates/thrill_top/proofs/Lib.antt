@@ -1,6 +1,4 @@
-pub mod ChainLemmas
 pub mod FrontLemmas
-pub mod PrintLemmas
 pub mod MakingLemmas
 pub mod ReadLemmas
 pub mod StepLemmas

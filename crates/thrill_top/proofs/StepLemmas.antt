@@ -1,38 +1,35 @@
 -- How each item of the work goes on.
 use Rattle.std.proofs.Common.{◌≡◌, ℕ, zero, suc, ◌+◌, ◌^◌, ◌<◌, ◌≤◌, Bool, true, false, ◌||◌, cond, eqb, ltb, List, [], ◌∷◌, ◌++◌, length, map, take, drop, Option, None, Some, is_some, IsSome, IfSome, Result, Ok, Err, OnOk, OnErr, IfErr, find, refl, sym, ap, ◌∙◌, subst, arith, inl, inr, append_assoc, append-nil, length-append}
 use Rattle.std.specs.Option.{option_map}
-use Rattle.std.specs.List.{AllByRecursion, flat_map}
+use Rattle.std.specs.List.{AllByRecursion, flat_map, range_with_len}
 use Rattle.std.proofs.lemmas.Bool.{or_left, or_right, true≢false, eqb-true, eq-eqb, ne_eqb, ltb-false, ltb-true}
 use Rattle.std.proofs.lemmas.List.Concat.{flat_map-append}
-use Rattle.dia_defs.specs.declared.kind.Kind.{Kind}
-use Rattle.dia_defs.specs.declared.kind.Kind.TheVariants.{Text}
 use Rattle.dia_defs.specs.Rows.{Row}
 use Rattle.dia_defs.specs.Pieces.{last_piece, pieces_from, lines_of, line_rows, line_row, line_feed}
-use Rattle.dia_defs.specs.Values.{Expr}
-use Rattle.dia_defs.specs.Scripts.{LocalOp, map_op, Form, lines_form, generate_form, local_form, form_operands, Action, print_action, action_operand, Statement, line, act, Script, statement_at}
-use Rattle.dia_defs.specs.Lists.{Inputs, Lists, IsLine, Block, missing, line_too_long, input_too_long, longest_input, most_rows, block_of_input, block_of_long_line, long_line, block_of_form, block_of_action, rows_in, rows_made, rows_through}
+use Rattle.dia_defs.specs.Scripts.{LocalOp, Form, lines_form, generate_form, local_form, form_operands, Action, print_action, size_action, sum_action, action_operand, Statement, line, act, Script, statement_at}
+use Rattle.dia_defs.specs.Lists.{Inputs, Lists, IsLine, Block, missing, line_too_long, input_too_long, too_many_rows, number_row, longest_input, most_rows, block_of_input, block_of_long_line, long_line, block_of_form, block_of_action, rows_in, rows_made, rows_through}
 use Rattle.dia_defs.specs.Work.{Item, do_line, do_action, has_number, work_of}
-use Rattle.dia_defs.specs.Runs.{IsRun, block_of, block_of_statement, action_text, run_texts, row_text}
+use Rattle.dia_defs.specs.Runs.{IsRun, IsRightStatement, block_of, block_of_statement, action_text, run_texts, row_text}
 use Rattle.dia_edge.specs.Shelves.{Holdings}
 use Rattle.dia_edge.specs.Sinks.{TookAll, TookFront}
 use Rattle.dia_lines.specs.Inputs.{IsInput}
-use Rattle.script_read.specs.declared.statement.Action as actions
-use Rattle.script_read.specs.declared.statement.Action.TheVariants.{Print}
-use Rattle.script_read.specs.Statements.{action_in}
 use Rattle.run_laws.specs.Order.{lines_among, IsReadyLine, IsReadyAction, InWork}
 use Rattle.run_laws.specs.Laws.{IsRunOf, texts_among, with_list, no_lists, IsChain}
 use Rattle.run_laws.proofs.WorkLemmas.{or_cases, has_cases, has_left, is_one, every_map}
-use Rattle.run_laws.proofs.RunLemmas.{begins, goes_on, line_goes_on, action_goes_on, runs_are_runs, roots_are_done, chains_make, ready_at, grows_with, lines_push_line, lines_push_action, every_push, some_there, listed_there, some_rows, some_statement}
+use Rattle.run_laws.proofs.RunLemmas.{begins, goes_on, line_goes_on, action_goes_on, runs_are_runs, roots_are_done, chains_make, ready_at, grows_with, right_at, lines_push_line, lines_push_action, every_push, some_there, listed_there, some_rows, some_statement}
 use Rattle.thrill_top.specs.declared.kept.Kept.{Kept}
 use Rattle.thrill_top.specs.declared.making.Made.{Made}
 use Rattle.thrill_top.specs.declared.fault.TopFault.{TopFault}
 use Rattle.thrill_top.specs.declared.fault.TopFault.TheVariants as faults
-use Rattle.thrill_top.specs.Chains.{maps_in, mapped, values_of, ops_of, texts_of, AreSoundMaps}
-use Rattle.thrill_top.specs.Ends.{IsSourceFault, IsSourceBlock, IsPrintFault}
-use Rattle.thrill_top.specs.Making.{IsRooted, IsMade, AreChains, with_number}
-use Rattle.thrill_top.specs.Promise.{TellsInputs, IsDone, IsStopped, IsCutOff, RunEnd, EndsRun, fault_in}
-use Rattle.thrill_top.specs.Steps.{kept_at, AreLines, AreKept, IsMidway, IsListed, IsAt, GoesOn, Stops, KeepsOn}
-use Rattle.thrill_top.proofs.MakingLemmas.{IsFound, chain_found}
+use Rattle.row_feed.specs.declared.source.Source.{Source}
+use Rattle.row_feed.specs.declared.source.Source.TheVariants.{Lines, Numbers}
+use Rattle.row_feed.specs.Sources.{source_rows, source_kinds}
+use Rattle.lop_chain.specs.Ops.{rows_from}
+use Rattle.thrill_top.specs.Ends.{IsSourceFault, IsSourceBlock, IsActFault}
+use Rattle.thrill_top.specs.Making.{ops_of, IsRoot, root_kinds, IsFew, IsRooted, AreChains, with_number}
+use Rattle.thrill_top.specs.Promise.{TellsInputs, IsDone, IsStopped, IsTooMany, IsCutOff, RunEnd, EndsRun, fault_in}
+use Rattle.thrill_top.specs.Steps.{kept_at, AreLines, AreKept, IsMidway, IsListed, IsAt, GoesOn, Stops, KeepsOn, IsNoInput, HasRoot, IsSourceOf, text_of_rows}
+use Rattle.thrill_top.proofs.MakingLemmas.{IsChainOf, chain_of_action}
 
 pub OnOk-map : {T E : Type 0} (r : Result T E) (P Q : Type 0) → (P → Q) → OnOk r P → OnOk r Q
 OnOk-map (Ok t) P Q f p = f p
@@ -165,6 +162,7 @@ device_end script inputs (faults.Script n cause) took is cut = absurd is
 device_end script inputs (faults.Missing name) took is cut = absurd is
 device_end script inputs (faults.LineTooLong name n) took is cut = absurd is
 device_end script inputs (faults.InputTooLong name) took is cut = absurd is
+device_end script inputs (faults.TooManyRows n) took is cut = absurd is
 
 stops_here : (script : Script) (holds : Option Holdings) (fixed : Bool) (items : List Item) (kept : List Kept) (taken : Option (List ℕ)) (f : TopFault) → IsDeviceFault f
     → Stops script holds fixed items kept taken f taken
@@ -197,6 +195,7 @@ source_end : (script : Script) (inputs : Inputs) (start : List ℕ) (done left :
 source_end script inputs start done left n name input faults.Usage kept taken work at is kind block = absurd kind
 source_end script inputs start done left n name input (faults.Script k cause) kept taken work at is kind block = absurd kind
 source_end script inputs start done left n name input (faults.WriteFault count) kept taken work at is kind block = absurd kind
+source_end script inputs start done left n name input (faults.TooManyRows k) kept taken work at is kind block = absurd kind
 source_end script inputs start done left n name input (faults.ReadFault count) kept taken work at is kind block =
     cut_here script inputs start done (do_line n ∷ left) kept taken work at
 source_end script inputs start done left n name input faults.NoMemory kept taken work at is kind block =
@@ -309,7 +308,7 @@ some_form : (name defined : List ℕ) (x y : Form) → Some (line name x) ≡ So
 some_form name defined x y e = cc
 
 -- a line that is made of another
-pub local_goes_on : (script : Script) (holds : Option Holdings) (fixed : Bool) (n of : ℕ) (op : LocalOp) (name : List ℕ) (kept : List Kept) (taken : Option (List ℕ))
+local_goes_on : (script : Script) (holds : Option Holdings) (fixed : Bool) (n of : ℕ) (op : LocalOp) (name : List ℕ) (kept : List Kept) (taken : Option (List ℕ))
     → statement_at script n ≡ Some (line name (local_form of op)) → GoesOn script holds fixed (do_line n ∷ []) kept taken kept taken
 local_goes_on script holds fixed n of op name kept taken is = λ inputs start done left tells work at.
     let r = work.order.0 in
@@ -326,18 +325,41 @@ local_goes_on script holds fixed n of op name kept taken is = λ inputs start do
       since = at.since ∙ ap (λ (t : List ℕ). Some (start ++ t)) (sym g.1);
     }
 
-pub local_keeps : (script : Script) (n of : ℕ) (op : LocalOp) (name : List ℕ) (kept : List Kept)
-    → statement_at script n ≡ Some (line name (local_form of op)) → KeepsOn script (do_line n ∷ []) kept kept
-local_keeps script n of op name kept here = λ done left work are. record {
+-- the numbers below another
+numbers_go_on : (script : Script) (holds : Option Holdings) (fixed : Bool) (n count : ℕ) (name : List ℕ) (kept : List Kept) (taken : Option (List ℕ))
+    → statement_at script n ≡ Some (line name (generate_form count)) → GoesOn script holds fixed (do_line n ∷ []) kept taken kept taken
+numbers_go_on script holds fixed n count name kept taken is = λ inputs start done left tells work at.
+    let rows = map number_row (range_with_len 0 count) in
+    let none = at.run.listed n ∙ work.order.1 in
+    let g = line_goes_on script inputs at.lists done left n name (generate_form count) rows work at.run is refl refl in
+    record {
+      lists = with_list at.lists n rows;
+      run = g.0;
+      are = still_listed at.lists n rows none kept at.are;
+      since = at.since ∙ ap (λ (t : List ℕ). Some (start ++ t)) (sym g.1);
+    }
+
+-- a line that isn't those of an input
+pub other_goes_on : (script : Script) (holds : Option Holdings) (fixed : Bool) (n : ℕ) (name : List ℕ) (form : Form) (kept : List Kept) (taken : Option (List ℕ))
+    → IsNoInput form → statement_at script n ≡ Some (line name form) → GoesOn script holds fixed (do_line n ∷ []) kept taken kept taken
+other_goes_on script holds fixed n name (lines_form input) kept taken other is = absurd other
+other_goes_on script holds fixed n name (generate_form count) kept taken other is = numbers_go_on script holds fixed n count name kept taken is
+other_goes_on script holds fixed n name (local_form of op) kept taken other is = local_goes_on script holds fixed n of op name kept taken is
+
+no_input : (form : Form) (input : List ℕ) → IsNoInput form → form ≡ lines_form input → ⊥
+no_input form input other is = let Other : Form → Type 0 = IsNoInput in subst Other is other
+
+pub other_keeps : (script : Script) (n : ℕ) (name : List ℕ) (form : Form) (kept : List Kept)
+    → IsNoInput form → statement_at script n ≡ Some (line name form) → KeepsOn script (do_line n ∷ []) kept kept
+other_keeps script n name form kept other here = λ done left work are. record {
   there = λ l defined input has is.
       let Has : List ℕ → Type 0 = λ xs. has_number xs l ≡ true in
       elim (has_cases (lines_among done) (n ∷ []) l (subst Has (lines_push_line done n) has)) [
         | inl e ↦ are.there l defined input e is
         | inr e ↦
-            let At : ℕ → Type 0 = λ m. statement_at script m ≡ Some (line name (local_form of op)) in
-            let same : local_form of op ≡ lines_form input = some_form name defined (local_form of op) (lines_form input) (sym (subst At (is_one n l e) here) ∙ is) in
-            let wrong : ⊥ = cc in
-            absurd wrong
+          let At : ℕ → Type 0 = λ m. statement_at script m ≡ Some (line name form) in
+          let same : form ≡ lines_form input = some_form name defined form (lines_form input) (sym (subst At (is_one n l e) here) ∙ is) in
+          absurd (no_input form input other same)
       ];
   lines = are.lines;
 }
@@ -352,151 +374,219 @@ action_keeps script n kept = λ done left work are. record {
   lines = are.lines;
 }
 
--- the code's action
-pub is_print : (action : actions.Action) → action_in action ≡ print_action (action_operand (action_in action))
-is_print (Print of) = refl
-
--- what an action finds: the chain of its line, and the rows that are kept for the chain's root
-pub record IsServed (script : Script) (chains : List Made) (kept : List Kept) (of : ℕ) : Type 0 where
-  pub found : IsFound script chains of
-  pub rows : List Row
-  pub are : kept_at kept found.made.root ≡ Some rows
-  pub lines : (bytes : List ℕ) × (rows ≡ line_rows bytes)
-
 some_action : (x y : Action) → Some (act x) ≡ Some (act y) → x ≡ y
 some_action x y e = cc
 
-operand_has : (script : Script) (done : List ℕ) (n of : ℕ) (action : Action) → IsReadyAction script done n → statement_at script n ≡ Some (act action)
-    → action_operand action ≡ of → has_number done of ≡ true
-operand_has script done n of action r is operand =
+operand_has : (script : Script) (done : List ℕ) (n : ℕ) (action : Action) → IsReadyAction script done n → statement_at script n ≡ Some (act action)
+    → has_number done (action_operand action) ≡ true
+operand_has script done n action r is =
     let same : r.action ≡ action = some_action r.action action (sym r.is ∙ is) in
-    let Has : ℕ → Type 0 = λ m. has_number done m ≡ true in
-    subst Has (ap action_operand same ∙ operand) r.operand
+    let Has : Action → Type 0 = λ a. has_number done (action_operand a) ≡ true in
+    subst Has same r.operand
 
-pub served : (script : Script) (chains : List Made) (kept : List Kept) (n of : ℕ) (action : Action) → IsMidway script (do_action n ∷ []) kept → AreChains script chains
-    → statement_at script n ≡ Some (act action) → action_operand action ≡ of → IsServed script chains kept of
-served script chains kept n of action m are is operand =
-    let has = operand_has script (lines_among m.done) n of action m.work.order.0 is operand in
-    let r = ready_at script (lines_among m.done) m.done of m.work.ready has in
-    let f = chain_found script chains of r.name r.form are r.is in
-    let made = f.made in
-    let Has : ℕ → Type 0 = λ k. has_number (lines_among m.done) k ≡ true in
-    let root = roots_are_done script m.done (do_action n ∷ m.left) made.root (ops_of (maps_in made.maps.items)) made.number m.work f.is.0.chain (subst Has (sym f.number) has) in
-    let rows = there (kept_at kept made.root) (m.are.there made.root f.is.0.name f.is.0.input root f.is.0.root) in
-    record { found = f; rows = rows.0; are = rows.1; lines = kept_lines kept made.root rows.0 m.are.lines rows.1 }
-  where
-    there : (o : Option (List Row)) → IsSome o → (rows : List Row) × (o ≡ Some rows)
-    there None some = absurd (true≢false (sym some))
-    there (Some rows) some = (rows, refl)
+-- what an action finds: the chain of its line, and the rows of the chain's root
+pub record IsServed (script : Script) (chains : List Made) (kept : List Kept) (action : Action) : Type 0 where
+  pub chain : IsChainOf script chains action
+  pub root : HasRoot chain.rooted.form kept chain.made.root
+  pub lines : AllByRecursion AreLines kept
 
--- with the chain and the rows that were found
-pub served_with : (script : Script) (chains : List Made) (kept : List Kept) (of : ℕ) (made : Made) (rows : List Row) → IsServed script chains kept of
-    → find (with_number of) chains ≡ Some made → kept_at kept made.root ≡ Some rows
-    → (s : IsServed script chains kept of) × (s.found.made ≡ made) × (s.rows ≡ rows)
-served_with script chains kept of made rows s found are =
-    let same = found_same (find (with_number of) chains) s.found.made made s.found.found found in
-    let Root : Made → Type 0 = λ m. kept_at kept m.root ≡ Some s.rows in
-    (s, same, rows_same (kept_at kept made.root) s.rows rows (subst Root same s.are) are)
+has_root : (form : Form) (kept : List Kept) (root : ℕ) → IsRoot form → ((input : List ℕ) → form ≡ lines_form input → IsSome (kept_at kept root)) → HasRoot form kept root
+has_root (lines_form input) kept root alone there = there input refl
+has_root (generate_form count) kept root alone there = tt
+has_root (local_form of op) kept root alone there = absurd alone
 
-through_maps : (maps : List (List Expr)) (row : Row) → rows_through (ops_of maps) row ≡ mapped maps row ∷ []
-through_maps [] row = refl
-through_maps (exprs ∷ maps) row = append-nil (rows_through (ops_of maps) (values_of exprs row)) ∙ through_maps maps (values_of exprs row)
-
-all_through : (maps : List (List Expr)) (rows : List Row) → flat_map (rows_through (ops_of maps)) rows ≡ map (mapped maps) rows
-all_through maps [] = refl
-all_through maps (row ∷ rows) =
-    ap (λ (rs : List Row). rs ++ flat_map (rows_through (ops_of maps)) rows) (through_maps maps row)
-    ∙ ap (λ (rs : List Row). mapped maps row ∷ rs) (all_through maps rows)
-
-texts_mapped : (maps : List (List Expr)) (rows : List Row) → flat_map row_text (map (mapped maps) rows) ≡ texts_of maps rows
-texts_mapped maps [] = refl
-texts_mapped maps (row ∷ rows) = ap (λ (t : List ℕ). row_text (mapped maps row) ++ t) (texts_mapped maps rows)
-
--- the rows that an action prints
-record IsPrinted (lists : Lists) (of : ℕ) (maps : List (List Expr)) (rows : List Row) : Type 0 where
-  free : block_of_action lists (print_action of) ≡ None
-  text : action_text lists (print_action of) ≡ texts_of maps rows
-
-printed : (script : Script) (inputs : Inputs) (lists : Lists) (done left : List Item) (chains : List Made) (kept : List Kept) (of : ℕ)
-    → InWork script done left → IsRunOf script inputs lists done → AllByRecursion (IsListed lists) kept → has_number (lines_among done) of ≡ true
-    → (s : IsServed script chains kept of) → IsPrinted lists of (maps_in s.found.made.maps.items) s.rows
-printed script inputs lists done left chains kept of work run all has s =
-    let made = s.found.made in
-    let maps = maps_in made.maps.items in
+root_done : (script : Script) (chains : List Made) (done left : List Item) (action : Action) → InWork script done left → (c : IsChainOf script chains action)
+    → has_number (lines_among done) (action_operand action) ≡ true → has_number (lines_among done) c.made.root ≡ true
+root_done script chains done left action work c has =
     let Has : ℕ → Type 0 = λ k. has_number (lines_among done) k ≡ true in
-    let c = chains_make script inputs lists done left made.root (ops_of maps) made.number work run s.found.is.0.chain (subst Has (sym s.found.number) has) in
-    let l = kept_listed lists kept made.root s.rows all s.are in
-    let same : c.0 ≡ s.rows = some_rows c.0 s.rows (sym c.1 ∙ l.0) in
-    let At : ℕ → Type 0 = λ k. lists k ≡ Some (map (mapped maps) s.rows) in
-    let here : lists of ≡ Some (map (mapped maps) s.rows) =
-    subst At s.found.number (c.2 ∙ ap (λ (rs : List Row). Some (flat_map (rows_through (ops_of maps)) rs)) same ∙ ap Some (all_through maps s.rows)) in
-    let rows : rows_in (lists of) ≡ map (mapped maps) s.rows = ap rows_in here in
-    let few : length (rows_in (lists of)) ≤ longest_input = (let long = ap length rows ∙ mapped_length (mapped maps) s.rows in let short = l.1 in omega (arith, long, short)) in
+    roots_are_done script done left c.made.root (ops_of c.made.ops.items) c.made.number work c.rooted.chain (subst Has (sym c.number) has)
+
+pub served : (script : Script) (chains : List Made) (kept : List Kept) (n : ℕ) (action : Action) → IsMidway script (do_action n ∷ []) kept → AreChains script chains
+    → statement_at script n ≡ Some (act action) → IsServed script chains kept action
+served script chains kept n action m are is =
+    let c = chain_of_action script chains n action are is in
+    let done = root_done script chains m.done (do_action n ∷ m.left) action m.work c (operand_has script (lines_among m.done) n action m.work.order.0 is) in
     record {
-      free = rw (not_many (length (rows_in (lists of))) few) refl;
-      text = ap (flat_map row_text) rows ∙ texts_mapped maps s.rows;
+      chain = c;
+      root = has_root c.rooted.form kept c.made.root c.rooted.alone (λ input same.
+          m.are.there c.made.root c.rooted.name input done (c.rooted.root ∙ ap (λ (f : Form). Some (line c.rooted.name f)) same));
+      lines = m.are.lines;
     }
-  where
-    not_many : (n : ℕ) → n ≤ longest_input → ltb most_rows n ≡ false
-    not_many n few = elim (ltb most_rows n) as (λ t. ltb most_rows n ≡ t → t ≡ false) [
-      | true ↦ λ e. (let many = ltb-true most_rows n e in absurd (omega (arith, few, many)))
+
+-- the chain that was found
+pub served_made : (script : Script) (chains : List Made) (kept : List Kept) (action : Action) (made : Made) (s : IsServed script chains kept action)
+    → find (with_number (action_operand action)) chains ≡ Some made → s.chain.made ≡ made
+served_made script chains kept action made s found = found_same (find (with_number (action_operand action)) chains) s.chain.made made s.chain.found found
+
+pub source_sound : (form : Form) (kept : List Kept) (root : ℕ) (source : Source) → IsSourceOf form kept root source → root_kinds form ≡ source_kinds source
+source_sound (lines_form input) kept root (Lines rows) is = refl
+source_sound (generate_form count) kept root (Numbers n) is = refl
+source_sound (lines_form input) kept root (Numbers n) is = absurd is
+source_sound (generate_form count) kept root (Lines rows) is = absurd is
+source_sound (local_form of op) kept root (Lines rows) is = absurd is
+source_sound (local_form of op) kept root (Numbers n) is = absurd is
+
+numbers_length : (a n : ℕ) → length (range_with_len a n) ≡ n
+numbers_length a zero = refl
+numbers_length a (suc n) = ap suc (numbers_length (a + 1) n)
+
+-- the rows of a source are the list of its line
+root_list : (script : Script) (inputs : Inputs) (lists : Lists) (done : List Item) (kept : List Kept) (root : ℕ) (name : List ℕ) (form : Form) (source : Source)
+    → IsRunOf script inputs lists done → AllByRecursion (IsListed lists) kept → has_number (lines_among done) root ≡ true
+    → statement_at script root ≡ Some (line name form) → IsFew form → IsSourceOf form kept root source
+    → (lists root ≡ Some (source_rows source)) × (length (source_rows source) ≤ longest_input)
+root_list script inputs lists done kept root name (lines_form input) (Lines rows) run all has is few of = kept_listed lists kept root rows.now all of
+root_list script inputs lists done kept root name (generate_form count) (Numbers n) run all has is few of =
+    let Right : Option Statement → Type 0 = λ o. IsRightStatement inputs lists root o in
+    let r = subst Right is (right_at script inputs lists done root run.right has) in
+    let Rows : ℕ → Type 0 = λ k. r.0 ≡ map number_row (range_with_len 0 k) in
+    let long : length (map number_row (range_with_len 0 n)) ≡ n = mapped_length number_row (range_with_len 0 n) ∙ numbers_length 0 n in
+    (r.1 ∙ ap Some (subst Rows (sym of) r.2), omega (arith, long, of, few))
+root_list script inputs lists done kept root name (lines_form input) (Numbers n) run all has is few of = absurd of
+root_list script inputs lists done kept root name (generate_form count) (Lines rows) run all has is few of = absurd of
+root_list script inputs lists done kept root name (local_form m op) (Lines rows) run all has is few of = absurd of
+root_list script inputs lists done kept root name (local_form m op) (Numbers n) run all has is few of = absurd of
+
+-- the rows that arrive at an action
+record IsActed (lists : Lists) (action : Action) (source : Source) (rows : List Row) : Type 0 where
+  list : lists (action_operand action) ≡ Some rows
+  short : length (source_rows source) ≤ longest_input
+
+acted : (script : Script) (inputs : Inputs) (lists : Lists) (done left : List Item) (chains : List Made) (kept : List Kept) (action : Action) (source : Source)
+    → InWork script done left → IsRunOf script inputs lists done → AllByRecursion (IsListed lists) kept → has_number (lines_among done) (action_operand action) ≡ true
+    → (s : IsServed script chains kept action) → IsSourceOf s.chain.rooted.form kept s.chain.made.root source
+    → IsActed lists action source (rows_from (ops_of s.chain.made.ops.items) (source_rows source))
+acted script inputs lists done left chains kept action source work run all has s of =
+    let c = s.chain in
+    let made = c.made in
+    let ops = ops_of made.ops.items in
+    let Has : ℕ → Type 0 = λ k. has_number (lines_among done) k ≡ true in
+    let m = chains_make script inputs lists done left made.root ops made.number work run c.rooted.chain (subst Has (sym c.number) has) in
+    let l = root_list script inputs lists done kept made.root c.rooted.name c.rooted.form source run all (root_done script chains done left action work c has)
+    c.rooted.root c.rooted.few of in
+    let same : m.0 ≡ source_rows source = some_rows m.0 (source_rows source) (sym m.1 ∙ l.0) in
+    let At : ℕ → Type 0 = λ k. lists k ≡ Some (rows_from ops (source_rows source)) in
+    record { list = subst At c.number (m.2 ∙ ap (λ (rs : List Row). Some (rows_from ops rs)) same); short = l.1 }
+
+text_is : (lists : Lists) (action : Action) (rows : List Row) → lists (action_operand action) ≡ Some rows → action_text lists action ≡ text_of_rows action rows
+text_is lists (print_action of) rows is = ap (λ (o : Option (List Row)). flat_map row_text (rows_in o)) is
+text_is lists (size_action of) rows is = ap (λ (o : Option (List Row)). text_of_rows (size_action of) (rows_in o)) is
+text_is lists (sum_action of c) rows is = ap (λ (o : Option (List Row)). text_of_rows (sum_action of c) (rows_in o)) is
+
+not_many : (lists : Lists) (action : Action) (rows : List Row) → lists (action_operand action) ≡ Some rows → length rows ≤ most_rows → block_of_action lists action ≡ None
+not_many lists action rows is few =
+    let Rows : List Row → Type 0 = λ rs. cond (ltb most_rows (length rs)) (Some too_many_rows) None ≡ None in
+    let at : rows ≡ rows_in (lists (action_operand action)) = sym (ap rows_in is) in
+    subst Rows at (elim (ltb most_rows (length rows)) as (λ t. ltb most_rows (length rows) ≡ t → cond t (Some too_many_rows) None ≡ None) [
+      | true ↦ λ e. (let many = ltb-true most_rows (length rows) e in absurd (omega (arith, few, many)))
       | false ↦ λ e. refl
-    ] refl
+    ] refl)
+
+many_block : (lists : Lists) (action : Action) (rows : List Row) → lists (action_operand action) ≡ Some rows → most_rows < length rows
+    → block_of_action lists action ≡ Some too_many_rows
+many_block lists action rows is many =
+    let Rows : List Row → Type 0 = λ rs. cond (ltb most_rows (length rs)) (Some too_many_rows) None ≡ Some too_many_rows in
+    let at : rows ≡ rows_in (lists (action_operand action)) = sym (ap rows_in is) in
+    subst Rows at (elim (ltb most_rows (length rows)) as (λ t. ltb most_rows (length rows) ≡ t → cond t (Some too_many_rows) None ≡ Some too_many_rows) [
+      | true ↦ λ e. refl
+      | false ↦ λ e. (let few = ltb-false most_rows (length rows) e in absurd (omega (arith, few, many)))
+    ] refl)
 
 took_since : (taken now : Option (List ℕ)) (start texts text : List ℕ) → taken ≡ Some (start ++ texts) → TookAll taken text now → now ≡ Some (start ++ (texts ++ text))
 took_since taken now start texts text is took =
     let Took : Option (List ℕ) → Type 0 = λ o. TookAll o text now in
     subst Took is took ∙ ap Some (append_assoc start texts text)
 
-pub print_goes_on : (script : Script) (n of : ℕ) (chains : List Made) (kept : List Kept) (taken now : Option (List ℕ))
-    → statement_at script n ≡ Some (act (print_action of)) → (s : IsServed script chains kept of) → TookAll taken (texts_of (maps_in s.found.made.maps.items) s.rows) now
+pub act_goes_on : (script : Script) (n : ℕ) (action : Action) (chains : List Made) (kept : List Kept) (taken now : Option (List ℕ)) (source : Source)
+    → statement_at script n ≡ Some (act action) → (s : IsServed script chains kept action) → IsSourceOf s.chain.rooted.form kept s.chain.made.root source
+    → (length (source_rows source) ≤ longest_input → length (rows_from (ops_of s.chain.made.ops.items) (source_rows source)) ≤ most_rows)
+    → TookAll taken (text_of_rows action (rows_from (ops_of s.chain.made.ops.items) (source_rows source))) now
     → (holds : Option Holdings) (fixed : Bool) → GoesOn script holds fixed (do_action n ∷ []) kept taken kept now
-print_goes_on script n of chains kept taken now is s took = λ holds fixed inputs start done left tells work at.
-    let has = operand_has script (lines_among done) n of (print_action of) work.order.0 is refl in
-    let p = printed script inputs at.lists done (do_action n ∷ left) chains kept of work at.run at.are has s in
-    let g = action_goes_on script inputs at.lists done left n (print_action of) work at.run is p.free in
+act_goes_on script n action chains kept taken now source is s of few took = λ holds fixed inputs start done left tells work at.
+    let has = operand_has script (lines_among done) n action work.order.0 is in
+    let rows = rows_from (ops_of s.chain.made.ops.items) (source_rows source) in
+    let p = acted script inputs at.lists done (do_action n ∷ left) chains kept action source work at.run at.are has s of in
+    let g = action_goes_on script inputs at.lists done left n action work at.run is (not_many at.lists action rows p.list (few p.short)) in
     let Took : List ℕ → Type 0 = λ t. TookAll taken t now in
     record {
       lists = at.lists;
       run = g.0;
       are = at.are;
-      since = took_since taken now start (texts_among script at.lists done) (action_text at.lists (print_action of)) at.since (subst Took (sym p.text) took)
+      since = took_since taken now start (texts_among script at.lists done) (action_text at.lists action) at.since (subst Took (sym (text_is at.lists action rows p.list)) took)
           ∙ ap (λ (t : List ℕ). Some (start ++ t)) (sym g.1);
     }
 
-print_device : (f : TopFault) → IsPrintFault f → IsDeviceFault f
-print_device (faults.WriteFault count) is = tt
-print_device faults.NoMemory is = tt
-print_device faults.Usage is = absurd is
-print_device (faults.Script n cause) is = absurd is
-print_device (faults.Missing name) is = absurd is
-print_device (faults.LineTooLong name n) is = absurd is
-print_device (faults.InputTooLong name) is = absurd is
-print_device (faults.ReadFault count) is = absurd is
-
-pub print_stops : (script : Script) (n of : ℕ) (chains : List Made) (kept : List Kept) (taken now : Option (List ℕ)) (f : TopFault)
-    → statement_at script n ≡ Some (act (print_action of)) → (s : IsServed script chains kept of) → TookFront taken (texts_of (maps_in s.found.made.maps.items) s.rows) now
-    → IsPrintFault f → (holds : Option Holdings) (fixed : Bool) → Stops script holds fixed (do_action n ∷ []) kept taken f now
-print_stops script n of chains kept taken now f is s took kind = λ holds fixed inputs start done left tells work at.
-    let has = operand_has script (lines_among done) n of (print_action of) work.order.0 is refl in
-    let p = printed script inputs at.lists done (do_action n ∷ left) chains kept of work at.run at.are has s in
-    let g = action_goes_on script inputs at.lists done left n (print_action of) work at.run is p.free in
+-- a write that failed
+write_stops : (script : Script) (n : ℕ) (action : Action) (chains : List Made) (kept : List Kept) (taken now : Option (List ℕ)) (source : Source) (f : TopFault)
+    → statement_at script n ≡ Some (act action) → (s : IsServed script chains kept action) → IsSourceOf s.chain.rooted.form kept s.chain.made.root source
+    → (length (source_rows source) ≤ longest_input → length (rows_from (ops_of s.chain.made.ops.items) (source_rows source)) ≤ most_rows)
+    → TookFront taken (text_of_rows action (rows_from (ops_of s.chain.made.ops.items) (source_rows source))) now → IsDeviceFault f
+    → (holds : Option Holdings) (fixed : Bool) → Stops script holds fixed (do_action n ∷ []) kept taken f now
+write_stops script n action chains kept taken now source f is s of few took kind = λ holds fixed inputs start done left tells work at.
+    let has = operand_has script (lines_among done) n action work.order.0 is in
+    let rows = rows_from (ops_of s.chain.made.ops.items) (source_rows source) in
+    let p = acted script inputs at.lists done (do_action n ∷ left) chains kept action source work at.run at.are has s of in
+    let g = action_goes_on script inputs at.lists done left n action work at.run is (not_many at.lists action rows p.list (few p.short)) in
     let w = goes_on script done left (do_action n) work in
     let r = runs_are_runs script inputs at.lists (done ++ do_action n ∷ []) left w g.0 in
     let texts = texts_among script at.lists done in
-    let Took : Option (List ℕ) → Type 0 = λ o. TookFront o (texts_of (maps_in s.found.made.maps.items) s.rows) now in
+    let Took : Option (List ℕ) → Type 0 = λ o. TookFront o (text_of_rows action rows) now in
     let front = subst Took at.since took in
     record {
       took = texts ++ front.0;
       since = front.3 ∙ ap Some (append_assoc start texts front.0);
-      end = device_end script inputs f (texts ++ front.0) (print_device f kind) (record {
+      end = device_end script inputs f (texts ++ front.0) kind (record {
         count = length (done ++ do_action n ∷ []);
-        all = texts ++ action_text at.lists (print_action of);
+        all = texts ++ action_text at.lists action;
         done = record { lists = at.lists; run = r.0; texts = sym (r.1 ∙ g.1) };
         rest = front.1;
-        parts = ap (λ (t : List ℕ). texts ++ t) (p.text ∙ front.2) ∙ sym (append_assoc texts front.0 front.1);
+        parts = ap (λ (t : List ℕ). texts ++ t) (text_is at.lists action rows p.list ∙ front.2) ∙ sym (append_assoc texts front.0 front.1);
       });
     }
+
+-- too many rows
+many_stops : (script : Script) (n k : ℕ) (action : Action) (chains : List Made) (kept : List Kept) (taken : Option (List ℕ)) (source : Source)
+    → statement_at script n ≡ Some (act action) → (s : IsServed script chains kept action) → IsSourceOf s.chain.rooted.form kept s.chain.made.root source
+    → k ≡ n → most_rows < length (rows_from (ops_of s.chain.made.ops.items) (source_rows source))
+    → (holds : Option Holdings) (fixed : Bool) → Stops script holds fixed (do_action n ∷ []) kept taken (faults.TooManyRows k) taken
+many_stops script n k action chains kept taken source is s of same many = λ holds fixed inputs start done left tells work at.
+    let has = operand_has script (lines_among done) n action work.order.0 is in
+    let rows = rows_from (ops_of s.chain.made.ops.items) (source_rows source) in
+    let p = acted script inputs at.lists done (do_action n ∷ left) chains kept action source work at.run at.are has s of in
+    let r = runs_are_runs script inputs at.lists done (do_action n ∷ left) work at.run in
+    let texts = texts_among script at.lists done in
+    let Many : ℕ → Type 0 = λ m. IsTooMany script inputs m texts in
+    record {
+      took = texts;
+      since = at.since;
+      end = subst Many (sym same) (record {
+        count = length done;
+        done = record { lists = at.lists; run = r.0; texts = sym r.1 };
+        left = left;
+        work = r.2;
+        blocked = ap (block_of_statement inputs at.lists) is ∙ many_block at.lists action rows p.list many;
+      });
+    }
+
+pub act_stops : (script : Script) (n : ℕ) (action : Action) (chains : List Made) (kept : List Kept) (taken now : Option (List ℕ)) (source : Source) (f : TopFault)
+    → statement_at script n ≡ Some (act action) → (s : IsServed script chains kept action) → IsSourceOf s.chain.rooted.form kept s.chain.made.root source
+    → IsActFault n (length (source_rows source)) (rows_from (ops_of s.chain.made.ops.items) (source_rows source))
+    (text_of_rows action (rows_from (ops_of s.chain.made.ops.items) (source_rows source))) f taken now
+    → (holds : Option Holdings) (fixed : Bool) → Stops script holds fixed (do_action n ∷ []) kept taken f now
+act_stops script n action chains kept taken now source (faults.TooManyRows k) is s of h = λ holds fixed.
+    let Stop : Option (List ℕ) → Type 0 = λ o. Stops script holds fixed (do_action n ∷ []) kept taken (faults.TooManyRows k) o in
+    subst Stop (sym h.2) (many_stops script n k action chains kept taken source is s of h.0 h.1 holds fixed)
+act_stops script n action chains kept taken now source (faults.WriteFault count) is s of h =
+    write_stops script n action chains kept taken now source (faults.WriteFault count) is s of h.0 h.1 tt
+act_stops script n action chains kept taken now source faults.NoMemory is s of h = λ holds fixed.
+    let Stop : Option (List ℕ) → Type 0 = λ o. Stops script holds fixed (do_action n ∷ []) kept taken faults.NoMemory o in
+    subst Stop (sym h) (stops_here script holds fixed (do_action n ∷ []) kept taken faults.NoMemory tt)
+act_stops script n action chains kept taken now source faults.Usage is s of h = absurd h
+act_stops script n action chains kept taken now source (faults.Script k cause) is s of h = absurd h
+act_stops script n action chains kept taken now source (faults.Missing name) is s of h = absurd h
+act_stops script n action chains kept taken now source (faults.LineTooLong name k) is s of h = absurd h
+act_stops script n action chains kept taken now source (faults.InputTooLong name) is s of h = absurd h
+act_stops script n action chains kept taken now source (faults.ReadFault count) is s of h = absurd h
 
 -- the whole work --------------------------------------------------------------------------------------------------------
 
