@@ -1,5 +1,5 @@
 -- The rows of sources, one after the other.
-use Rattle.std.proofs.Common.{◌≡◌, ℕ, suc, ◌+◌, ◌-◌, ◌*◌, ◌<◌, ◌≤◌, ◌^◌, zero, min, List, [], ◌∷◌, ◌++◌, length, map, refl, sym, ap, ◌∙◌, subst, arith, length-append, suc-mul, mul-suc, mul_comm}
+use Rattle.std.proofs.Common.{◌≡◌, ℕ, suc, ◌+◌, ◌-◌, ◌*◌, ◌<◌, ◌≤◌, ◌^◌, zero, min, List, [], ◌∷◌, ◌++◌, length, map, Option, Result, Ok, Err, IfErr, OnOk, OnErr, append_assoc, refl, sym, ap, ◌∙◌, subst, arith, length-append, suc-mul, mul-suc, mul_comm}
 use Rattle.std.specs.List.{range_with_len, flat_map}
 use Rattle.dia_defs.specs.declared.kind.Kind.{Kind}
 use Rattle.dia_defs.specs.declared.kind.Kind.TheVariants.{Text}
@@ -8,6 +8,14 @@ use Rattle.dia_defs.specs.Pieces.{line_row, line_rows, lines_of}
 use Rattle.dia_defs.specs.Scripts.{LocalOp, spread_op}
 use Rattle.dia_defs.specs.Lists.{number_row, raised, rows_through}
 use Rattle.dia_defs.specs.Sound.{AreSoundOps}
+use Rattle.std.proofs.lemmas.List.Concat.{flat_map-append}
+use Rattle.dia_defs.specs.Runs.{row_text}
+use Rattle.dia_edge.specs.Counts.{HasRisen}
+use Rattle.dia_edge.specs.Sinks.{TookFront}
+use Rattle.dia_edge.specs.Sinks as sinks
+use Rattle.text_out.specs.Carrying.{CarriesOn}
+use Rattle.text_out.proofs.CarryLemmas.{front_after, front_more}
+use Rattle.row_feed.specs.Sinks.{texts_of_rows}
 use Rattle.lop_chain.specs.Calls.{TookAll, TookAllMade, TookSome, TookSomeMade, TookAllBut}
 use Rattle.lop_chain.specs.Chains.{chain_ops}
 use Rattle.lop_chain.specs.Made.{MakesAsBefore}
@@ -71,7 +79,7 @@ next_number i n less =
     ap (λ (k : ℕ). map number_row (range_with_len i k)) e
 
 -- how many rows are made
-flat_few : {A B : Type 0} (f : A → List B) (k : ℕ) (xs : List A) → ((x : A) → length (f x) ≤ k) → length (flat_map f xs) ≤ length xs * k
+pub flat_few : {A B : Type 0} (f : A → List B) (k : ℕ) (xs : List A) → ((x : A) → length (f x) ≤ k) → length (flat_map f xs) ≤ length xs * k
 flat_few f k [] each = omega arith
 flat_few f k (x ∷ xs) each =
     let rest = flat_few f k xs each in
@@ -101,3 +109,36 @@ spread_few rest row c (suc k) behind product told each is same small =
     let turned : suc k * behind ≡ behind + behind * k = mul_comm (suc k) behind ∙ step in
     let count : length rows * behind ≡ behind + behind * k = ap (λ (n : ℕ). n * behind) long ∙ turned in
     omega (arith, is, same, small, step, few, count)
+
+-- printing ------------------------------------------------------------------------------------------------------------
+
+-- some rows were printed, and then a front of the next
+pub printed_front : (a m c : Option (List ℕ)) (w v : List ℕ) (rows front : List Row) (next : Row) (back : List Row) → rows ≡ front ++ next ∷ back
+    → CarriesOn a w (texts_of_rows front) m v → TookFront m (v ++ row_text next) c → TookFront a (w ++ texts_of_rows rows) c
+printed_front a m c w v rows front next back parts before refused =
+    let Took : List ℕ → Type 0 = λ t. TookFront a (w ++ t) c in
+    let texts : texts_of_rows rows ≡ (texts_of_rows front ++ row_text next) ++ texts_of_rows back =
+    ap texts_of_rows parts ∙ flat_map-append row_text front (next ∷ back) ∙ sym (append_assoc (texts_of_rows front) (row_text next) (texts_of_rows back)) in
+    subst Took (sym texts) (front_more a c w (texts_of_rows front ++ row_text next) (texts_of_rows back)
+    (front_after a m c w v (texts_of_rows front) (row_text next) before refused))
+
+pub risen_after : (a b c : ℕ) → a ≤ b → HasRisen b c → HasRisen a c
+risen_after a b c low h = omega arith
+
+pub OnErr-some : {T E : Type 0} (r : Result T E) (P : E → Type 0) (Q : Type 0) → ((e : E) → P e → Q) → IfErr r P → OnErr r Q
+OnErr-some (Ok t) P Q f p = p
+OnErr-some (Err e) P Q f p = f e p
+
+-- what a loan held is what its lender has
+module _ {A T E : Type 0} (r : Result T E) (taken : A → Option (List ℕ)) (faults : A → ℕ) where
+  pub lent_ok : (before : Option (List ℕ)) (text : List ℕ) (x y : A) → OnOk r (sinks.TookAll before text (taken x)) → y ≡ x → OnOk r (sinks.TookAll before text (taken y))
+  lent_ok before text x y h is = let P : A → Type 0 = λ a. OnOk r (sinks.TookAll before text (taken a)) in subst P (sym is) h
+
+  pub lent_front : (before : Option (List ℕ)) (text : List ℕ) (x y : A) → OnErr r (TookFront before text (taken x)) → y ≡ x → OnErr r (TookFront before text (taken y))
+  lent_front before text x y h is = let P : A → Type 0 = λ a. OnErr r (TookFront before text (taken a)) in subst P (sym is) h
+
+  pub lent_rose : (n : ℕ) (x y : A) → OnErr r (HasRisen n (faults x)) → y ≡ x → OnErr r (HasRisen n (faults y))
+  lent_rose n x y h is = let P : A → Type 0 = λ a. OnErr r (HasRisen n (faults a)) in subst P (sym is) h
+
+  pub lent_counts : (n : ℕ) (x y : A) → n ≤ faults x → y ≡ x → n ≤ faults y
+  lent_counts n x y h is = let P : A → Type 0 = λ a. n ≤ faults a in subst P (sym is) h

@@ -72,9 +72,9 @@ fn feed_numbers<R: Wait, S: RowSink>(
 /// Pushes all rows of a source through a chain into a sink, in order; `room` is for the rows of numbers.
 ///
 /// The only refusal is the sink's own: the rows before the refused one were taken, and nothing was offered after it.
-pub fn feed<R: Wait, S: RowSink>(
+pub fn feed<'k, R: Wait, S: RowSink>(
     rt: &R,
-    source: &Source<'_>,
+    source: &Source<'k>,
     chain: &mut Chain,
     room: &mut RowBuf,
     desk: &mut S::Desk,

@@ -28,9 +28,7 @@ pub fn growth(ops: &[ScriptOp]) -> u64
             match op {
                 ScriptOp::Map(_) | ScriptOp::Filter(_) => behind,
                 ScriptOp::Words { .. } => MOST_TOLD + 1,
-                ScriptOp::Spread { count, .. } => {
-                    told(behind.saturating_mul(u64::from(*count)))
-                }
+                ScriptOp::Spread { count, .. } => { told(behind.saturating_mul(u64::from(*count))) }
             }
         }
     }

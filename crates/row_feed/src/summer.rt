@@ -19,7 +19,7 @@ pub struct Summer {
     pub sum: u64,
     /// How many rows were taken; the count stands still at `u64::MAX`.
     pub rows: u64,
-    ghost fits: { rows < 2 ^ 64 },
+    ghost fits: { (rows < 2 ^ 64) × (sum < 2 ^ 64) },
 }
 
 impl RowSink for Summer {
@@ -52,7 +52,7 @@ impl RowSink for Summer {
         Ok(())
     }
 
-    ghost took_none = { λ s. (Prim.omega (arith, s.fits), summed-none s.sum, refl) };
+    ghost took_none = { λ s. (Prim.omega (arith, s.fits.0), summed-none s.sum, refl) };
 
     ghost took_more = { λ a b c xs ys p q. (
       Prim.omega (arith, p.0, q.0, length-append xs ys),

@@ -307,7 +307,7 @@ never_many inputs name script fault took n P r a many none =
 abbrev Whole : Script → Inputs → ℕ → Type 0
 Whole script inputs status = IsWhole script inputs status
 
-whole_0 : (script : Script) (inputs : Inputs) (status : ℕ) → status ≡ 0 → Whole script inputs status
+pub whole_0 : (script : Script) (inputs : Inputs) (status : ℕ) → status ≡ 0 → IsWhole script inputs status
 whole_0 script inputs status is = (inl is, λ none. inl is)
 
 whole_12 : (script : Script) (inputs : Inputs) (status : ℕ) → status ≡ 12 → Whole script inputs status

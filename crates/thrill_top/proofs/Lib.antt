@@ -3,3 +3,4 @@ pub mod MakingLemmas
 pub mod ReadLemmas
 pub mod StepLemmas
 pub mod EndLemmas
+pub mod ActLemmas

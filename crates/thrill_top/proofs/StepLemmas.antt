@@ -4,7 +4,9 @@ use Rattle.std.specs.Option.{option_map}
 use Rattle.std.specs.List.{AllByRecursion, flat_map, range_with_len}
 use Rattle.std.proofs.lemmas.Bool.{or_left, or_right, true≢false, eqb-true, eq-eqb, ne_eqb, ltb-false, ltb-true}
 use Rattle.std.proofs.lemmas.List.Concat.{flat_map-append}
+use Rattle.dia_defs.specs.declared.kind.Kind.{Kind}
 use Rattle.dia_defs.specs.Rows.{Row}
+use Rattle.dia_defs.specs.Sound.{AreSoundOps, IsSoundAction}
 use Rattle.dia_defs.specs.Pieces.{last_piece, pieces_from, lines_of, line_rows, line_row, line_feed}
 use Rattle.dia_defs.specs.Scripts.{LocalOp, Form, lines_form, generate_form, local_form, form_operands, Action, print_action, size_action, sum_action, action_operand, Statement, line, act, Script, statement_at}
 use Rattle.dia_defs.specs.Lists.{Inputs, Lists, IsLine, Block, missing, line_too_long, input_too_long, too_many_rows, number_row, longest_input, most_rows, block_of_input, block_of_long_line, long_line, block_of_form, block_of_action, rows_in, rows_made, rows_through}
@@ -55,6 +57,10 @@ rows_same o x y p q = some_rows x y (sym p ∙ q)
 pub IfErr-map2 : {T E : Type 0} (r : Result T E) (P : Type 0) (K Q : E → Type 0) → ((e : E) → P → K e → Q e) → OnErr r P → IfErr r K → IfErr r Q
 IfErr-map2 (Ok t) P K Q f p k = k
 IfErr-map2 (Err e) P K Q f p k = f e p k
+
+pub OnOk-both : {T E : Type 0} (r : Result T E) (P Q S : Type 0) → (P → Q → S) → OnOk r P → OnOk r Q → OnOk r S
+OnOk-both (Ok t) P Q S f p q = f p q
+OnOk-both (Err e) P Q S f p q = p
 
 mapped_length : {A B : Type 0} (f : A → B) (xs : List A) → length (map f xs) ≡ length xs
 mapped_length f [] = refl
@@ -357,9 +363,9 @@ other_keeps script n name form kept other here = λ done left work are. record {
       elim (has_cases (lines_among done) (n ∷ []) l (subst Has (lines_push_line done n) has)) [
         | inl e ↦ are.there l defined input e is
         | inr e ↦
-          let At : ℕ → Type 0 = λ m. statement_at script m ≡ Some (line name form) in
-          let same : form ≡ lines_form input = some_form name defined form (lines_form input) (sym (subst At (is_one n l e) here) ∙ is) in
-          absurd (no_input form input other same)
+            let At : ℕ → Type 0 = λ m. statement_at script m ≡ Some (line name form) in
+            let same : form ≡ lines_form input = some_form name defined form (lines_form input) (sym (subst At (is_one n l e) here) ∙ is) in
+            absurd (no_input form input other same)
       ];
   lines = are.lines;
 }
@@ -587,6 +593,66 @@ act_stops script n action chains kept taken now source (faults.Missing name) is 
 act_stops script n action chains kept taken now source (faults.LineTooLong name k) is s of h = absurd h
 act_stops script n action chains kept taken now source (faults.InputTooLong name) is s of h = absurd h
 act_stops script n action chains kept taken now source (faults.ReadFault count) is s of h = absurd h
+
+-- the chain of an action's line and its source were found, and this is what the chain does
+pub record IsFound (script : Script) (chains : List Made) (kept : List Kept) (n : ℕ) (action : Action) (ops : List LocalOp) (source : Source) : Type 0 where
+  pub is : statement_at script n ≡ Some (act action)
+  pub serves : IsServed script chains kept action
+  pub of : IsSourceOf serves.chain.rooted.form kept serves.chain.made.root source
+  pub same : ops_of serves.chain.made.ops.items ≡ ops
+
+pub found_root : (script : Script) (chains : List Made) (kept : List Kept) (n : ℕ) (action : Action) (made : Made) → IsMidway script (do_action n ∷ []) kept
+    → AreChains script chains → statement_at script n ≡ Some (act action) → find (with_number (action_operand action)) chains ≡ Some made
+    → (name : List ℕ) × (form : Form) × (statement_at script made.root ≡ Some (line name form)) × HasRoot form kept made.root
+found_root script chains kept n action made m are is found =
+    let s = served script chains kept n action m are is in
+    let Root : Made → Type 0 = λ x. (name : List ℕ) × (form : Form) × (statement_at script x.root ≡ Some (line name form)) × HasRoot form kept x.root in
+    subst Root (served_made script chains kept action made s found) (s.chain.rooted.name, s.chain.rooted.form, s.chain.rooted.root, s.root)
+
+pub found_source : (script : Script) (chains : List Made) (kept : List Kept) (n : ℕ) (action : Action) (made : Made) (ops : List LocalOp) (source : Source)
+    → IsMidway script (do_action n ∷ []) kept → AreChains script chains → statement_at script n ≡ Some (act action)
+    → find (with_number (action_operand action)) chains ≡ Some made
+    → ((name : List ℕ) (form : Form) → statement_at script made.root ≡ Some (line name form) → IsSourceOf form kept made.root source)
+    → ops_of made.ops.items ≡ ops → IsFound script chains kept n action ops source
+found_source script chains kept n action made ops source m are is found of onto =
+    let s = served script chains kept n action m are is in
+    let same = served_made script chains kept action made s found in
+    let Of : Made → Type 0 = λ x. IsSourceOf s.chain.rooted.form kept x.root source in
+    let At : Made → Type 0 = λ x. statement_at script x.root ≡ Some (line s.chain.rooted.name s.chain.rooted.form) in
+    record {
+      is = is;
+      serves = s;
+      of = subst Of (sym same) (of s.chain.rooted.name s.chain.rooted.form (subst At same s.chain.rooted.root));
+      same = ap (λ (x : Made). ops_of x.ops.items) same ∙ onto;
+    }
+
+pub found_sound : (script : Script) (chains : List Made) (kept : List Kept) (n : ℕ) (action : Action) (ops : List LocalOp) (source : Source)
+    → IsFound script chains kept n action ops source → (kinds : List Kind) × AreSoundOps (source_kinds source) ops kinds × IsSoundAction kinds action
+found_sound script chains kept n action ops source f =
+    let c = f.serves.chain in
+    let kinds = source_sound c.rooted.form kept c.made.root source f.of in
+    let From : List Kind → Type 0 = λ ks. AreSoundOps ks ops c.kinds in
+    let Through : List LocalOp → Type 0 = λ os. AreSoundOps (root_kinds c.rooted.form) os c.kinds in
+    (c.kinds, subst From kinds (subst Through f.same c.rooted.makes), c.sound)
+
+pub found_goes_on : (script : Script) (chains : List Made) (kept : List Kept) (n : ℕ) (action : Action) (ops : List LocalOp) (source : Source) (taken now : Option (List ℕ))
+    → IsFound script chains kept n action ops source → TookAll taken (text_of_rows action (rows_from ops (source_rows source))) now
+    → (length (source_rows source) ≤ longest_input → length (rows_from ops (source_rows source)) ≤ most_rows)
+    → (holds : Option Holdings) (fixed : Bool) → GoesOn script holds fixed (do_action n ∷ []) kept taken kept now
+found_goes_on script chains kept n action ops source taken now f took few =
+    let rows = source_rows source in
+    let Took : List LocalOp → Type 0 = λ os. TookAll taken (text_of_rows action (rows_from os rows)) now in
+    let Few : List LocalOp → Type 0 = λ os. length rows ≤ longest_input → length (rows_from os rows) ≤ most_rows in
+    act_goes_on script n action chains kept taken now source f.is f.serves f.of (subst Few (sym f.same) few) (subst Took (sym f.same) took)
+
+pub found_stops : (script : Script) (chains : List Made) (kept : List Kept) (n : ℕ) (action : Action) (ops : List LocalOp) (source : Source) (taken now : Option (List ℕ))
+    → IsFound script chains kept n action ops source → (f : TopFault)
+    → IsActFault n (length (source_rows source)) (rows_from ops (source_rows source)) (text_of_rows action (rows_from ops (source_rows source))) f taken now
+    → (holds : Option Holdings) (fixed : Bool) → Stops script holds fixed (do_action n ∷ []) kept taken f now
+found_stops script chains kept n action ops source taken now found f h =
+    let rows = source_rows source in
+    let Fault : List LocalOp → Type 0 = λ os. IsActFault n (length rows) (rows_from os rows) (text_of_rows action (rows_from os rows)) f taken now in
+    act_stops script n action chains kept taken now source f found.is found.serves found.of (subst Fault (sym found.same) h)
 
 -- the whole work --------------------------------------------------------------------------------------------------------
 

@@ -20,7 +20,7 @@ use crate::fault::{TopFault, put_pieces};
 use dia_edge::{Failed, NoMemory, Sink};
 use dia_item::RowBuf;
 use lop_chain::{Chain, ScriptOp, copy_exprs};
-use row_feed::{Counter, MOST_TOLD, Printer, Source, Summer, feed, growth};
+use row_feed::{Counter, MOST_TOLD, Source, Summer, feed, growth, print_all};
 use script_read::{Action, Form};
 use std::alloc::Global;
 use std::sync::Wait;
@@ -169,34 +169,14 @@ fn print_rows<R: Wait, S: Sink>(
         Ok(room) => room,
         Err(NoMemory) => return Err(TopFault::NoMemory),
     };
-    let buffer = match OutBuffer::new(alloc) {
+    let mut buffer = match OutBuffer::new(alloc) {
         Ok(buffer) => buffer,
         Err(NoMemory) => return Err(TopFault::NoMemory),
     };
-    let mut printer = Printer {
-        buffer,
-        out,
-        shut: false,
-    };
-    match feed(
-        rt,
-        source,
-        &mut chain,
-        &mut room,
-        &mut (),
-        &mut printer,
-    ) {
-        Ok(()) => {}
-        Err(Failed) => {
-            return Err(TopFault::WriteFault {
-                count: printer.out.fault_count(),
-            });
-        }
-    }
-    match printer.buffer.flush(printer.out) {
+    match print_all(rt, source, &mut chain, &mut room, &mut buffer, out) {
         Ok(()) => Ok(()),
         Err(Failed) => Err(TopFault::WriteFault {
-            count: printer.out.fault_count(),
+            count: out.fault_count(),
         }),
     }
 }

@@ -168,6 +168,8 @@ pub(crate) fn do_item<R: Wait, N: Shelf, S: Sink>(
 {
     match item {
         Item::Line(number) => do_line(alloc, script, number, kept, shelf),
-        Item::Action(number) => { do_action(rt, alloc, script, chains, number, kept.as_slice(), out) }
+        Item::Action(number) => {
+            do_action(rt, alloc, script, chains, number, kept.as_slice(), out)
+        }
     }
 }

@@ -86,6 +86,12 @@ fn case_of<'a>(script: &'a [u8], inputs: &'a [(&'a str, &'a [u8])], step: usize)
     }
 }
 
+/// What each of the log's examples reads, five lines.
+const LOG: &[(&str, &[u8])] = &[(
+    "access.log",
+    b"10.0.0.1 GET /index.html 200 5120\n10.0.0.7 GET /search 500 312\n10.0.0.1 POST /login 302 0\n10.0.0.9 GET /search 500 298\n10.0.0.3 GET /about.html 200 2048\n",
+)];
+
 /// A script, its inputs, the status, what is printed, and the fault's line.
 type Row<'a> = (&'a [u8], &'a [(&'a str, &'a [u8])], u8, &'a [u8], &'a [u8]);
 
@@ -158,6 +164,28 @@ const ROWS: &[Row<'static>] = &[
     ),
     (TWICE, &[], 4, b"", b"thrill: missing in\n"),
     (b"", &[], 4, b"", b"thrill: missing s\n"),
+    // The examples: errors, columns and bytes.
+    (
+        b"log = lines access.log\nbad = filter log eq word 3 f0 '500\nprint bad\nsize bad\n",
+        LOG,
+        0,
+        b"10.0.0.7 GET /search 500 312\n10.0.0.9 GET /search 500 298\n2\n",
+        b"",
+    ),
+    (
+        b"log = lines access.log\ncut = map log word 2 f0 word 0 f0\nprint cut\n",
+        LOG,
+        0,
+        b"/index.html\t10.0.0.1\n/search\t10.0.0.7\n/login\t10.0.0.1\n/search\t10.0.0.9\n/about.html\t10.0.0.3\n",
+        b"",
+    ),
+    (
+        b"log = lines access.log\nbytes = map log num word 4 f0\nsum bytes 0\n",
+        LOG,
+        0,
+        b"7778\n",
+        b"",
+    ),
     (
         b"a = generate 1\na = zork b\n",
         &[],
@@ -247,8 +275,26 @@ fn a_line_is_a_text_or_too_long(rt: HostRuntime) -> Result<(), Fail> {
     while long.len() < 65_536 {
         long.push(b'a')?;
     }
-    assert!(rt; ends(&rt, alloc, &case_of(script, &[("in", long.as_slice())], 1000), 0, b"65536\n", b"")?);
+    assert!(rt;
+        ends(
+            &rt,
+            alloc,
+            &case_of(script, &[("in", long.as_slice())], 1000),
+            0,
+            b"65536\n",
+            b""
+        )?
+    );
     long.push(b'a')?;
-    assert!(rt; ends(&rt, alloc, &case_of(script, &[("in", long.as_slice())], 1000), 5, b"", b"thrill: in line 1 too long\n")?);
+    assert!(rt;
+        ends(
+            &rt,
+            alloc,
+            &case_of(script, &[("in", long.as_slice())], 1000),
+            5,
+            b"",
+            b"thrill: in line 1 too long\n"
+        )?
+    );
     Ok(())
 }

@@ -15,9 +15,14 @@ add_chains-requires t c =
     let form = form_in c.in-Line.form in
     let Are : List Made → Type 0 = λ table. AreMade r.0 r.1.lines table in (
       search rules,
-      (r.0, _, _, after_line r.0 r.1 r.2 (map numbered_in c.args.statements.now) (map numbered_in c.in-Some.rest.now) (numbered_in c.in-Some.first.now) c.in-Line.name form
-      c.args.table.now.items c.push.new.self.items c.in_ok-made-in-Line.made r.3 (ap (map numbered_in) c.in-Some.ensures.cases.0) (ap statement_in c.in-Line.is)
-      (λ sound at. made r.0 r.1 c.in-Line.name sound (subst Are (sym c.as_slice.ensures.value) r.3.are) at) c.in_ok-push-in-Line.ensures.items),
+      (
+        r.0,
+        _,
+        _,
+        after_line r.0 r.1 r.2 (map numbered_in c.args.statements.now) (map numbered_in c.in-Some.rest.now) (numbered_in c.in-Some.first.now) c.in-Line.name form
+            c.args.table.now.items c.push.new.self.items c.in_ok-made-in-Line.made r.3 (ap (map numbered_in) c.in-Some.ensures.cases.0) (ap statement_in c.in-Line.is)
+            (λ sound at. made r.0 r.1 c.in-Line.name sound (subst Are (sym c.as_slice.ensures.value) r.3.are) at) c.in_ok-push-in-Line.ensures.items,
+      ),
     )
 
 pub returns-in-None : goal.returns-in-None

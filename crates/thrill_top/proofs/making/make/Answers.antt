@@ -23,5 +23,24 @@ unreachable-requires c =
     let wrong : ⊥ = cc in
     wrong
 
-pub returns-in_ok-push-in-Some : goal.returns-in_ok-push-in-Some
-returns-in_ok-push-in-Some c = ?
+pub returns : goal.returns
+returns c = λ script known name sound are at.
+    let form = form_in c.args.form.now in
+    let op = op_of form in
+    let one : c.in-Some.of ∷ [] ≡ form_operands form = ap option_list (sym c.in-Some.is) ∙ c.form_operand.ensures in
+    let is = local_of form c.in-Some.of one in
+    let u = under_there script known c.in-Some.of op form c.args.table.now is sound are in
+    let found : find (with_number c.in-Some.of) c.args.table.now ≡ Some c.in-Some-find_made.under.now =
+    sym (ap (option_map (λ (m : Bor Made). m.now)) (sym c.in-Some-find_made.is) ∙ c.find_made.ensures) in
+    let At : Form → Type 0 = λ f. statement_at script c.args.number ≡ Some (line name f) in
+    let Made' : Form → Type 0 = λ f. IsFormMade script c.args.number (form_kinds known f)
+    (record { number = c.args.number; root = c.in-Some-find_made.under.now.root; ops = c.push.new.self }) in
+    let under = ops_of c.in-Some-find_made.under.now.ops.items in
+    let copied : ops_of c.in_ok-ops-in-Some-find_made.ops.items ≡ under = ap ops_of (c.in_ok-ops-in-Some-find_made.ensures.items ∙ c.as_slice.ensures.value) in
+    let onto : ops_of c.push.new.self.items ≡ under ++ op ∷ [] =
+    ap ops_of c.in_ok-push-in-Some-find_made.ensures.items
+    ∙ map-append (λ (f : Bor forms.Form). op_of (form_in f.now)) c.in_ok-ops-in-Some-find_made.ops.items (c.args.form ∷ [])
+    ∙ ap (λ (os : List LocalOp). os ++ op ∷ []) copied in
+    subst Made' (sym is)
+    (local_made script c.args.table.now c.args.number c.in-Some.of name (earlier_numbered known c.in-Some.of) u.0 op _ c.in-Some-find_made.under.now u.1 u.3 u.2 found
+    (subst At is at) refl refl onto)
