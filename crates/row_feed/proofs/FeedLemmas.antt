@@ -1,7 +1,6 @@
 -- The rows of sources, one after the other.
 use Rattle.std.proofs.Common.{◌≡◌, ℕ, suc, ◌+◌, ◌-◌, ◌*◌, ◌<◌, ◌≤◌, ◌^◌, zero, min, List, [], ◌∷◌, ◌++◌, length, map, Option, Result, Ok, Err, IfErr, OnOk, OnErr, append_assoc, refl, sym, ap, ◌∙◌, subst, arith, length-append, suc-mul, mul-suc, mul_comm}
 use Rattle.std.specs.List.{range_with_len, flat_map}
-use Rattle.dia_defs.specs.declared.kind.Kind.{Kind}
 use Rattle.dia_defs.specs.declared.kind.Kind.TheVariants.{Text}
 use Rattle.dia_defs.specs.Rows.{Row, kinds_of}
 use Rattle.dia_defs.specs.Pieces.{line_row, line_rows, lines_of}

@@ -1,19 +1,19 @@
 -- How a call ends.
-use Rattle.std.proofs.Common.{◌≡◌, ◌≢◌, ◌⊎◌, inl, inr, ℕ, zero, suc, ◌+◌, ◌-◌, ◌^◌, ◌<◌, ◌≤◌, min, List, [], ◌∷◌, ◌++◌, length, drop, Option, None, Some, MatchOption, Result, Ok, Err, IfErr, refl, sym, ap, subst, ◌∙◌, arith, append-nil}
-use Rattle.std.specs.Prelude.{All, Contains, slice_index_or}
+use Rattle.std.proofs.Common.{◌≡◌, ◌≢◌, ◌⊎◌, inl, inr, ℕ, zero, suc, ◌<◌, ◌≤◌, List, [], ◌∷◌, ◌++◌, drop, Option, None, Some, MatchOption, Result, Ok, Err, refl, sym, ap, subst, ◌∙◌, arith, append-nil}
+use Rattle.std.specs.Prelude.{All, Contains}
 use Rattle.std.proofs.lemmas.List.Elements.{All-contains}
 use Rattle.dia_defs.specs.declared.cause.Cause.{Cause}
-use Rattle.dia_defs.specs.Scripts.{lines_form, line, Statement, Script, statement_at}
-use Rattle.dia_defs.specs.Reading.{reading_of, ReadsAs, IsRefused}
-use Rattle.dia_defs.specs.Lists.{Inputs, Lists, Block, missing, line_too_long, input_too_long}
+use Rattle.dia_defs.specs.Scripts.{Script}
+use Rattle.dia_defs.specs.Reading.{reading_of}
+use Rattle.dia_defs.specs.Lists.{Inputs, Block, missing, line_too_long, input_too_long}
 use Rattle.dia_defs.specs.Work.{Item, do_line, work_of}
 use Rattle.dia_defs.specs.Runs.{block_of, block_of_statement}
-use Rattle.dia_edge.specs.Counts.{HasRisen, raised}
+use Rattle.dia_edge.specs.Counts.{HasRisen}
 use Rattle.thrill_top.specs.declared.fault.TopFault.{TopFault}
 use Rattle.thrill_top.specs.declared.fault.TopFault.TheVariants as faults
 use Rattle.thrill_top.specs.Faults.{fault_status}
-use Rattle.thrill_top.specs.Ends.{IsShelfFault, IsOutFault, IsBytesFault, IsAbsentScript, IsSourceFault, IsActionFault, IsNoUsage, IsWorkFault, IfScript, IsRunFault, IsScriptFault, IsScriptReason}
-use Rattle.thrill_top.specs.Promise.{IsStopped, RunEnd, IsAccepted, IsBadScript, CallEnd, EndsRun, EndsCall, IsRefusedScript, IsOpen, IsReadable, IsRefusedWith, IsAbsentWith, IsExcused, IsTooMany, HasNoTooMany, IsWhole}
+use Rattle.thrill_top.specs.Ends.{IsShelfFault, IsOutFault, IsBytesFault, IsAbsentScript, IsSourceFault, IsActionFault, IsWorkFault, IfScript, IsRunFault, IsScriptFault, IsScriptReason}
+use Rattle.thrill_top.specs.Promise.{IsStopped, IsAccepted, CallEnd, EndsRun, EndsCall, IsRefusedScript, IsOpen, IsReadable, IsRefusedWith, IsAbsentWith, IsExcused, IsTooMany, HasNoTooMany, IsWhole}
 
 -- counts --------------------------------------------------------------------------------------------------------------
 

@@ -3,4 +3,5 @@ pub mod MakingLemmas
 pub mod ReadLemmas
 pub mod StepLemmas
 pub mod EndLemmas
-pub mod ActLemmas
+pub mod CountLemmas
+pub mod ActionLemmas

@@ -1,17 +1,14 @@
 -- Lines and their chains.
-use Rattle.std.proofs.Common.{length, ◌≡◌, ◌≢◌, ℕ, ◌+◌, ◌≤◌, Bool, true, false, cond, eqb, List, [], ◌∷◌, ◌++◌, map, Option, None, Some, IsSome, find, ◌||◌, refl, sym, ap, ◌∙◌, subst, arith, inl, inr, append-nil, append_assoc}
+use Rattle.std.proofs.Common.{length, ◌≡◌, ℕ, ◌+◌, true, false, cond, eqb, List, [], ◌∷◌, ◌++◌, Option, None, Some, IsSome, find, refl, sym, ap, ◌∙◌, subst, arith, append-nil, append_assoc}
 use Rattle.std.specs.List.{AllByRecursion}
-use Rattle.std.proofs.lemmas.Bool.{eq-eqb, eqb-true, ne_eqb, true≢false, or_left, or_right}
-use Rattle.std.proofs.lemmas.List.{map-append}
+use Rattle.std.proofs.lemmas.Bool.{eqb-true, true≢false}
 use Rattle.dia_defs.specs.declared.kind.Kind.{Kind}
 use Rattle.dia_defs.specs.Scripts.{LocalOp, Form, lines_form, generate_form, local_form, form_operands, Action, action_operand, Statement, line, act, Numbered, Script, statement_at}
 use Rattle.dia_defs.specs.Reading.{Earlier, Known, known_after}
 use Rattle.dia_defs.specs.Sound.{IsSoundOp, op_kinds, AreSoundOps, IsSoundAction, earlier_numbered, kinds_of_earlier, IsSound, IsSoundStatement, IsSoundForm, form_kinds, statement_kinds}
 use Rattle.run_laws.specs.Laws.{IsChain}
 use Rattle.thrill_top.specs.declared.making.Made.{Made}
-use Rattle.script_read.specs.declared.statement.Form as forms
-use Rattle.script_read.specs.Statements.{form_in}
-use Rattle.thrill_top.specs.Making.{op_of, ops_of, IsRoot, root_kinds, IsFew, IsMadeOf, IsRooted, IsFormMade, AreMade, with_number, IsServedBy, IsAdded, AreChains, ArePlaced, IsAmong}
+use Rattle.thrill_top.specs.Making.{op_of, ops_of, IsRoot, root_kinds, IsFew, IsMadeOf, IsRooted, IsFormMade, AreMade, with_number, IsServedBy, IsAdded, AreChains, IsAmong}
 
 -- the chain of an earlier line
 pub record IsUnder (script : Script) (table : List Made) (n : ℕ) (e : Earlier) : Type 0 where

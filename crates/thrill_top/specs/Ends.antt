@@ -1,5 +1,5 @@
 -- What the end of a call says of the shelf, and of what standard output took.
-use Rattle.std.specs.Prelude.{◌≡◌, ◌⊎◌, ◌<◌, ◌≤◌, ℕ, List, length, Option, None, Some, Result, Ok, Err}
+use Rattle.std.specs.Prelude.{◌≡◌, ◌⊎◌, ◌<◌, ◌≤◌, ℕ, List, length, Option, None, Some, Result, Err}
 use Rattle.dia_defs.specs.declared.cause.Cause.{Cause}
 use Rattle.dia_defs.specs.Rows.{Row}
 use Rattle.dia_defs.specs.Scripts as scripts

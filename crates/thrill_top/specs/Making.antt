@@ -4,7 +4,7 @@ use Rattle.std.specs.Borrow.{Bor}
 use Rattle.std.specs.List.{AllByRecursion}
 use Rattle.dia_defs.specs.declared.kind.Kind.{Kind}
 use Rattle.dia_defs.specs.declared.kind.Kind.TheVariants.{Int, Text}
-use Rattle.dia_defs.specs.Scripts.{LocalOp, map_op, Form, lines_form, generate_form, local_form, Action, action_operand, Statement, line, act, Numbered, Script, statement_at}
+use Rattle.dia_defs.specs.Scripts.{LocalOp, map_op, Form, lines_form, generate_form, local_form, action_operand, Statement, line, act, Numbered, Script, statement_at}
 use Rattle.dia_defs.specs.Reading.{Earlier, Known}
 use Rattle.dia_defs.specs.Sound.{IsSound, IsSoundAction, AreSoundOps}
 use Rattle.dia_defs.specs.Lists.{longest_input}

@@ -1,9 +1,8 @@
-use Rattle.std.proofs.Common.{List, ◌≡◌, ◌++◌, ◌∷◌, [], sym, ap, subst, ◌∙◌}
+use Rattle.std.proofs.Common.{◌≡◌, ◌++◌, ◌∷◌, [], ap, ◌∙◌}
 use Rattle.dia_defs.specs.Rows.{Row, int}
 use Rattle.dia_defs.specs.Lists.{number_row}
 use Rattle.dia_item.specs.Lent.{row_in_ref}
 use Rattle.lop_chain.specs.Chains.{chain_ops}
-use Rattle.lop_chain.specs.Calls.{TookAllMade}
 use Rattle.lop_chain.specs.Made.{MakesAsBefore-trans}
 use Rattle.lop_chain.proofs.TakeLemmas.{took_but, took_but_some}
 use Rattle.row_feed.proofs.FeedLemmas.{all_made_at, some_made_at, but_next, next_number}

@@ -1,5 +1,4 @@
-use Rattle.std.proofs.Common.{rules, ap, sym, subst, ◌∙◌, ◌≤◌, ◌*◌, ◌∷◌, length, List}
-use Rattle.dia_defs.specs.Scripts.{LocalOp}
+use Rattle.std.proofs.Common.{rules, sym, subst, ◌≤◌, ◌∷◌, length, List}
 use Rattle.dia_defs.specs.Lists.{rows_through}
 use Rattle.lop_chain.specs.Ops.{op_in, ops_in}
 use Rattle.lop_chain.specs.declared.script_op.ScriptOp.{ScriptOp}

@@ -1,4 +1,3 @@
-use Rattle.std.proofs.Common.{List, ℕ, Result, Ok, Err}
 use Rattle.lop_chain.specs.Chains.{chain_ops}
 use Rattle.lop_chain.specs.Ops.{rows_from}
 use Rattle.row_feed.specs.Sources.{source_rows}

@@ -3,7 +3,7 @@ use Rattle.dia_defs.specs.Scripts.{LocalOp}
 use Rattle.dia_defs.specs.Lists.{most_rows}
 use Rattle.lop_chain.specs.Ops.{ops_in, rows_from}
 use Rattle.row_feed.specs.Sources.{source_rows}
-use Rattle.thrill_top.proofs.ActLemmas.{few_arrive}
+use Rattle.thrill_top.proofs.CountLemmas.{few_arrive}
 use Rattle.thrill_top.proofs.action.are_few.Goals as goal
 
 pub returns-then-growth-le-MOST_TOLD-clause-few : goal.returns-then-growth-le-MOST_TOLD-clause-few

@@ -1,10 +1,10 @@
-use Rattle.std.proofs.Common.{◌≡◌, List, subst, ◌∙◌}
+use Rattle.std.proofs.Common.{◌≡◌, List, subst}
 use Rattle.dia_defs.specs.Scripts.{LocalOp}
 use Rattle.dia_defs.specs.Runs.{column_sum}
 use Rattle.lop_chain.specs.Chains.{chain_ops}
 use Rattle.lop_chain.specs.Ops.{rows_from}
 use Rattle.row_feed.specs.Sources.{source_rows}
-use Rattle.thrill_top.proofs.ActLemmas.{sum_told}
+use Rattle.thrill_top.proofs.CountLemmas.{sum_told}
 use Rattle.thrill_top.proofs.action.total.Goals as goal
 
 pub returns-clause-sum : goal.returns-clause-sum

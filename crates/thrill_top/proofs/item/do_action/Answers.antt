@@ -1,13 +1,14 @@
-use Rattle.std.proofs.Common.{◌≡◌, ◌∷◌, [], ℕ, Option, Some, None, find, ap, sym, subst, ◌∙◌}
+use Rattle.std.proofs.Common.{◌≡◌, ℕ, Some, None, find, ap, sym, subst, ◌∙◌}
 use Rattle.std.specs.Borrow.{Bor}
 use Rattle.std.specs.Option.{option_map}
-use Rattle.dia_defs.specs.Scripts.{Script, act, statement_at}
+use Rattle.dia_defs.specs.Scripts.{Script, statement_at}
 use Rattle.script_read.specs.declared.statement.Statement as statements
 use Rattle.script_read.specs.Statements.{statement_in, action_in}
 use Rattle.thrill_top.specs.declared.making.Made.{Made}
 use Rattle.thrill_top.specs.Making.{ops_of, with_number}
 use Rattle.thrill_top.proofs.MakingLemmas.{chain_of_action}
-use Rattle.thrill_top.proofs.StepLemmas.{OnOk-both, IfErr-map, found_root, found_source, found_sound, found_goes_on, found_stops}
+use Rattle.thrill_top.proofs.StepLemmas.{OnOk-both, IfErr-map}
+use Rattle.thrill_top.proofs.ActionLemmas.{found_root, found_source, found_sound, found_goes_on, found_stops}
 use Rattle.thrill_top.proofs.item.do_action.Goals as goal
 
 pub source_of-source-requires-clause-root : goal.source_of-source-requires-clause-root

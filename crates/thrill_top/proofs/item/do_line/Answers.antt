@@ -1,5 +1,5 @@
-use Rattle.std.proofs.Common.{[], ◌∷◌, ap, sym, refl, ◌∙◌, Option, ◌≡◌, Some, None, MatchOption}
-use Rattle.dia_defs.specs.Scripts.{Script, Form, line, lines_form, statement_at}
+use Rattle.std.proofs.Common.{[], ◌∷◌, ap, sym, refl, ◌∙◌, Some}
+use Rattle.dia_defs.specs.Scripts.{Script, Form, line, statement_at}
 use Rattle.dia_defs.specs.Work.{do_line}
 use Rattle.script_read.specs.declared.statement.Statement as statements
 use Rattle.script_read.specs.Statements.{statement_in, form_in}

@@ -1,4 +1,4 @@
-use Rattle.std.proofs.Common.{rules, List, map, ◌∷◌, sym, ap, subst, ◌∙◌}
+use Rattle.std.proofs.Common.{rules, List, sym, ap, subst}
 use Rattle.dia_defs.specs.Work.{Item}
 use Rattle.work_order.specs.Items.{item_in, items_in}
 use Rattle.thrill_top.specs.declared.fault.TopFault.{TopFault}

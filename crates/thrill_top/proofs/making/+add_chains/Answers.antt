@@ -1,4 +1,4 @@
-use Rattle.std.proofs.Common.{rules, sym, ap, refl, subst, List, ℕ, OnOk, map, ◌∙◌}
+use Rattle.std.proofs.Common.{rules, sym, ap, refl, subst, List, map}
 use Rattle.dia_defs.specs.Scripts.{Script}
 use Rattle.dia_defs.specs.Reading.{Known}
 use Rattle.script_read.specs.Statements.{form_in, statement_in, numbered_in}

@@ -1,4 +1,4 @@
-use Rattle.std.proofs.Common.{[], List, map, sym, ap, subst, ◌∙◌}
+use Rattle.std.proofs.Common.{[], List, map, sym, subst}
 use Rattle.std.specs.List.{AllByRecursion}
 use Rattle.dia_defs.specs.Scripts.{Numbered, Script}
 use Rattle.dia_defs.specs.Reading.{nothing_known}

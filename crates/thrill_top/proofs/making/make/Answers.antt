@@ -1,15 +1,15 @@
-use Rattle.std.proofs.Common.{◌≡◌, List, ℕ, [], ◌∷◌, ◌++◌, Option, None, Some, find, refl, sym, ap, subst, ◌∙◌}
+use Rattle.std.proofs.Common.{◌≡◌, List, [], ◌∷◌, ◌++◌, None, Some, find, refl, sym, ap, subst, ◌∙◌}
 use Rattle.std.specs.Borrow.{Bor}
 use Rattle.std.specs.Option.{option_map}
 use Rattle.std.proofs.lemmas.List.{map-append}
-use Rattle.dia_defs.specs.Scripts.{LocalOp, Form, local_form, form_operands, line, statement_at}
+use Rattle.dia_defs.specs.Scripts.{LocalOp, Form, form_operands, line, statement_at}
 use Rattle.dia_defs.specs.Sound.{form_kinds, earlier_numbered}
 use Rattle.script_read.specs.declared.statement.Form as forms
 use Rattle.script_read.specs.Statements.{form_in}
 use Rattle.work_order.specs.Found.{option_list}
 use Rattle.thrill_top.specs.declared.making.Made.{Made}
 use Rattle.thrill_top.specs.Making.{op_of, ops_of, with_number, IsFormMade}
-use Rattle.thrill_top.proofs.MakingLemmas.{root_of, local_of, under_there, root_made, local_made}
+use Rattle.thrill_top.proofs.MakingLemmas.{local_of, under_there, local_made}
 use Rattle.thrill_top.proofs.making.make.Goals as goal
 
 pub unreachable-requires : goal.unreachable-requires

@@ -1,8 +1,6 @@
-use Rattle.std.proofs.Common.{◌≡◌, ◌⊎◌, ℕ, Option, Some, None, MatchOption, refl, sym, subst}
+use Rattle.std.proofs.Common.{◌⊎◌, Option, Some, None, refl, sym, subst}
 use Rattle.thrill_top.specs.declared.fault.TopFault.{TopFault}
-use Rattle.thrill_top.specs.Faults.{fault_status}
-use Rattle.thrill_top.specs.Ends.{IsRunFault}
-use Rattle.thrill_top.specs.Promise.{EndsCall, IsRefusedWith, IsAbsentWith, IsExcused}
+use Rattle.thrill_top.specs.Promise.{IsRefusedWith, IsAbsentWith, IsExcused}
 use Rattle.thrill_top.proofs.EndLemmas.{refused_so, absent_so, whole_0, complete_so, ends_named}
 use Rattle.thrill_top.proofs.top.thrill_call.Goals as goal
 

@@ -1,5 +1,5 @@
 -- How many rows arrive at an action, and their sum.
-use Rattle.std.proofs.Common.{◌≡◌, ℕ, ◌+◌, ◌*◌, ◌%◌, ◌^◌, ◌<◌, ◌≤◌, List, length, arith}
+use Rattle.std.proofs.Common.{◌≡◌, ℕ, ◌^◌, ◌<◌, ◌≤◌, List, length, arith}
 use Rattle.dia_defs.specs.Rows.{Row}
 use Rattle.dia_defs.specs.Scripts.{LocalOp}
 use Rattle.dia_defs.specs.Lists.{longest_input, most_rows, rows_through}
