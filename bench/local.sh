@@ -61,7 +61,8 @@ by_mawk() {
 }
 by_gnu() {
     case $1 in
-    filter) measure grep -ax '.\{0,39\}' in ;;
+    # It would stop at the first line where it saw that it writes to /dev/null.
+    filter) measure sh -c "grep -ax '.\{0,39\}' in | cat" ;;
     words) measure wc -w in ;;
     sum) seconds= ;; # no such tool
     esac
