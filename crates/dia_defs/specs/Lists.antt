@@ -4,7 +4,7 @@ use Rattle.std.specs.List.{flat_map, position_from, range_with_len}
 use Rattle.dia_defs.specs.Rows.{int, text, Row, longest_text}
 use Rattle.dia_defs.specs.Pieces.{lines_of, line_rows}
 use Rattle.dia_defs.specs.Texts.{words_in_text}
-use Rattle.dia_defs.specs.Values.{Expr, column, number_in, bytes_in, value_of}
+use Rattle.dia_defs.specs.Values.{column, number_in, bytes_in, value_of}
 use Rattle.dia_defs.specs.Scripts.{LocalOp, map_op, filter_op, words_op, spread_op, Form, lines_form, generate_form, local_form, Action, action_operand}
 
 -- the bytes of each input, or none where there is no such input

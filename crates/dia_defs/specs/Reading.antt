@@ -1,28 +1,27 @@
 -- What a script's bytes read as: its statements, or the first cause for which it is refused, and the line.
-use Rattle.std.specs.Prelude.{◌≡◌, ℕ, ◌+◌, ◌-◌, ◌==◌, nat_lt, nat_le, Bool, true, false, not, ◌&&◌, ◌||◌, List, [], ◌∷◌, ◌++◌, length, take, drop, Option, None, Some, is_none, is_some, unwrap_or, Result, Ok, Err, if◌then◌else◌, codes}
+use Rattle.std.specs.Prelude.{◌≡◌, ℕ, ◌+◌, ◌-◌, ◌==◌, nat_lt, nat_le, Bool, true, false, not, ◌&&◌, ◌||◌, List, [], ◌∷◌, ◌++◌, length, Option, None, Some, is_none, is_some, unwrap_or, slice_get, Result, Ok, Err, if◌then◌else◌, codes}
 use Rattle.std.specs.Prelude.{find}
-use Rattle.std.specs.List.{list_all, list_any, filter_map}
+use Rattle.std.specs.List.{list_all, list_any}
 use Rattle.std.specs.Str.{bytes_eq}
 use Rattle.dia_defs.specs.declared.kind.Kind.{Kind}
-use Rattle.dia_defs.specs.declared.kind.Kind.TheVariants.{Text}
+use Rattle.dia_defs.specs.declared.kind.Kind.TheVariants.{Int, Text}
 use Rattle.dia_defs.specs.declared.cause.Cause.{Cause}
-use Rattle.dia_defs.specs.declared.cause.Cause.TheVariants.{ScriptLong, LineLong, BadForm, UnknownName, NameTaken, UnknownWord, BadColumn, TooManyColumns}
+use Rattle.dia_defs.specs.declared.cause.Cause.TheVariants.{ScriptLong, LineLong, BadForm, UnknownName, NameTaken, UnknownWord, BadNumber, BadColumn, BadKind, TooManyColumns}
 use Rattle.dia_defs.specs.declared.word.Word.{Word}
-use Rattle.dia_defs.specs.declared.word.Word.TheVariants.{Lines, Map, Print}
+use Rattle.dia_defs.specs.declared.word.Word.TheVariants.{Filter, FlatMap}
 use Rattle.dia_defs.specs.Pieces.{lines_of, words_of}
-use Rattle.dia_defs.specs.Values.{Expr, column, expr_kind}
-use Rattle.dia_defs.specs.Scripts.{LocalOp, map_op, Form, lines_form, local_form, Action, print_action, Statement, line, act, Numbered, Script}
+use Rattle.dia_defs.specs.Texts.{is_decimal, number_spelled, number_or_0}
+use Rattle.dia_defs.specs.Values.{Expr, column, is_int, is_text, expr_kind, lacks_column}
+use Rattle.dia_defs.specs.Scripts.{Statement, line, act, Script}
+use Rattle.dia_defs.specs.Forms.{statement_word, action_word, selector_in, fits_count, operand_words, number_word, is_in_range, column_word, column_kind, expr_words, exprs_fault, exprs_in, said_in, statement_of, result_kinds}
 
 -- words ------------------------------------------------------------------------------------------------------
 
 abbrev pub is_lower : ℕ → Bool
 is_lower b = nat_le 97 b && nat_le b 122
 
-abbrev pub is_digit : ℕ → Bool
-is_digit b = nat_le 48 b && nat_le b 57
-
 abbrev pub is_name_byte : ℕ → Bool
-is_name_byte b = is_lower b || is_digit b || b == 95
+is_name_byte b = is_lower b || is_decimal b || b == 95
 
 -- a lower-case letter, and up to 31 lower-case letters, digits and `_`
 abbrev pub is_name : List ℕ → Bool
@@ -40,7 +39,7 @@ is_skipped_words ((b ∷ word) ∷ words) = b == 35
 
 -- `f` and one digit is a column
 abbrev pub expr_of : List ℕ → Option Expr
-expr_of (b ∷ digit ∷ []) = if b == 102 && is_digit digit then Some (column (digit - 48)) else None
+expr_of (b ∷ digit ∷ []) = if b == 102 && is_decimal digit then Some (column (digit - 48)) else None
 expr_of _ = None
 
 -- the parts of a line: the name before `=`, the statement or action word, and the words after it
@@ -69,53 +68,25 @@ pub record Earlier : Type 0 where
 
 pub record Known : Type 0 where
   pub lines : List Earlier
-  pub has_action : Bool
 
 abbrev pub nothing_known : Known
-nothing_known = record { lines = []; has_action = false }
+nothing_known = record { lines = [] }
 
 abbrev pub earlier_named : Known → List ℕ → Option Earlier
 earlier_named known word = find (λ (e : Earlier). bytes_eq e.name word) known.lines
 
--- the statement words after a name, the action words else; for now a script has one action at most
-abbrev pub statement_word : List ℕ → Option Word
-statement_word word = if bytes_eq word (codes "lines") then Some Lines else (if bytes_eq word (codes "map") then Some Map else None)
+-- a word is known in its place: statement words behind a name, action words else
+abbrev pub word_in : Option (List ℕ) → List ℕ → Option Word
+word_in None word = action_word word
+word_in (Some name) word = statement_word word
 
-abbrev pub action_word : Bool → List ℕ → Option Word
-action_word true word = None
-action_word false word = if bytes_eq word (codes "print") then Some Print else None
+-- the line that the first operand names
+abbrev pub line_named : Known → List (List ℕ) → Option Earlier
+line_named known [] = None
+line_named known (word ∷ words) = earlier_named known word
 
-abbrev pub word_in : Known → Option (List ℕ) → List ℕ → Option Word
-word_in known None word = action_word known.has_action word
-word_in known (Some name) word = statement_word word
-
--- the forms: one row a word in each table -----------------------------------------------------------------------
-
--- how many words may stand after it
-abbrev pub fits_count : Word → ℕ → Bool
-fits_count Lines n = n == 1
-fits_count Map n = nat_le 2 n
-fits_count Print n = n == 1
-
--- the words in an operand's place
-abbrev pub operand_words : Word → List (List ℕ) → List (List ℕ)
-operand_words Lines args = []
-operand_words Map args = take 1 args
-operand_words Print args = take 1 args
-
--- the words of expressions
-abbrev pub expr_words : Word → List (List ℕ) → List (List ℕ)
-expr_words Lines args = []
-expr_words Map args = drop 1 args
-expr_words Print args = []
-
-abbrev pub exprs_in : Word → List (List ℕ) → List Expr
-exprs_in word args = filter_map expr_of (expr_words word args)
-
--- the line in the first operand's place
-abbrev pub operand_in : Known → List (List ℕ) → Option Earlier
-operand_in known [] = None
-operand_in known (word ∷ args) = earlier_named known word
+abbrev pub operand_in : Known → Word → List (List ℕ) → Option Earlier
+operand_in known word args = line_named known (operand_words word args)
 
 abbrev pub number_of : Option Earlier → ℕ
 number_of None = 0
@@ -125,23 +96,27 @@ abbrev pub kinds_in : Option Earlier → List Kind
 kinds_in None = []
 kinds_in (Some e) = e.kinds
 
-abbrev pub first_word : List (List ℕ) → List ℕ
-first_word [] = []
-first_word (word ∷ args) = word
-
--- the statement that a line without a cause is
-abbrev pub statement_in : Known → Option (List ℕ) → Word → List (List ℕ) → Statement
-statement_in known name Lines args = line (unwrap_or name []) (lines_form (first_word args))
-statement_in known name Map args = line (unwrap_or name []) (local_form (number_of (operand_in known args)) (map_op (exprs_in Map args)))
-statement_in known name Print args = act (print_action (number_of (operand_in known args)))
-
--- the kinds of the rows of a line
-abbrev pub result_kinds : Known → Word → List (List ℕ) → List Kind
-result_kinds known Lines args = Text ∷ []
-result_kinds known Map args = filter_map (expr_kind (kinds_in (operand_in known args))) (exprs_in Map args)
-result_kinds known Print args = []
+-- why the words of expressions are refused
+abbrev pub fault_in : Option Word → List (List ℕ) → Option Cause
+fault_in None args = None
+fault_in (Some word) args = exprs_fault word (expr_words word args)
 
 -- the causes, each where it applies if no earlier one does -------------------------------------------------------
+
+-- whether this is why the words of expressions are refused
+abbrev pub is_bad_form : Option Cause → Bool
+is_bad_form (Some BadForm) = true
+is_bad_form _ = false
+
+abbrev pub is_unknown_word : Option Cause → Bool
+is_unknown_word (Some UnknownWord) = true
+is_unknown_word _ = false
+
+abbrev pub is_bad_number : Option Cause → Bool
+is_bad_number (Some BadNumber) = true
+is_bad_number _ = false
+
+-- BadForm
 
 abbrev pub has_bad_name : Option (List ℕ) → List ℕ → Bool
 has_bad_name None word = false
@@ -149,27 +124,96 @@ has_bad_name (Some name) word = not (is_name name) || length word == 0
 
 abbrev pub has_bad_count : Option Word → List (List ℕ) → Bool
 has_bad_count None args = false
-has_bad_count (Some word) args = not (fits_count word (length args))
+has_bad_count (Some word) args = not (fits_count word args)
+
+abbrev pub has_bad_form : List ℕ → Sentence → Option Word → Bool
+has_bad_form bytes s word =
+    not (list_all is_printable bytes) || has_bad_name s.defines s.word || has_bad_count word s.args || is_bad_form (fault_in word s.args)
+
+-- UnknownName
 
 abbrev pub has_unknown_name : Known → Option Word → List (List ℕ) → Bool
 has_unknown_name known None args = false
 has_unknown_name known (Some word) args = list_any (λ w. is_none (earlier_named known w)) (operand_words word args)
 
+-- NameTaken
+
 abbrev pub has_taken_name : Known → Option (List ℕ) → Bool
 has_taken_name known None = false
 has_taken_name known (Some name) = is_some (earlier_named known name)
 
+-- UnknownWord
+
+abbrev pub has_unknown_selector : Word → List (List ℕ) → Bool
+has_unknown_selector FlatMap args = is_none (selector_in args)
+has_unknown_selector _ args = false
+
 abbrev pub has_unknown_word : Option Word → List (List ℕ) → Bool
 has_unknown_word None args = true
-has_unknown_word (Some word) args = list_any (λ w. is_none (expr_of w)) (expr_words word args)
+has_unknown_word (Some word) args = has_unknown_selector word args || is_unknown_word (fault_in (Some word) args)
 
-abbrev pub have_bad_column : Option Earlier → List Expr → Bool
-have_bad_column None exprs = false
-have_bad_column (Some operand) exprs = list_any (λ e. is_none (expr_kind operand.kinds e)) exprs
+-- BadNumber
+
+-- a word in a number's place spells none, or one that isn't in the range
+abbrev pub is_number_outside : (ℕ → Bool) → Option ℕ → Bool
+is_number_outside range None = true
+is_number_outside range (Some n) = not (range n)
+
+abbrev pub is_outside : (ℕ → Bool) → Option (List ℕ) → Bool
+is_outside range None = false
+is_outside range (Some w) = is_number_outside range (number_spelled w)
+
+abbrev pub has_bad_number : Option Word → List (List ℕ) → Bool
+has_bad_number None args = false
+has_bad_number (Some word) args =
+    is_outside (is_in_range word) (number_word word args) || is_outside (λ n. true) (column_word word args)
+    || is_bad_number (fault_in (Some word) args)
+
+-- BadColumn
+
+abbrev pub is_no_column : List Kind → Option (List ℕ) → Bool
+is_no_column kinds None = false
+is_no_column kinds (Some w) = nat_le (length kinds) (number_or_0 w)
+
+abbrev pub lack_columns : List Kind → List Expr → Bool
+lack_columns kinds exprs = list_any (lacks_column (length kinds)) exprs
+
+abbrev pub has_bad_column_on : Option Earlier → Word → List (List ℕ) → Bool
+has_bad_column_on None word args = false
+has_bad_column_on (Some e) word args = is_no_column e.kinds (column_word word args) || lack_columns e.kinds (exprs_in word args)
 
 abbrev pub has_bad_column : Known → Option Word → List (List ℕ) → Bool
 has_bad_column known None args = false
-has_bad_column known (Some word) args = have_bad_column (operand_in known args) (exprs_in word args)
+has_bad_column known (Some word) args = has_bad_column_on (operand_in known word args) word args
+
+-- BadKind
+
+abbrev pub is_kind : Kind → Option Kind → Bool
+is_kind Int kind = is_int kind
+is_kind Text kind = is_text kind
+
+abbrev pub is_other_kind : Kind → List Kind → Option (List ℕ) → Bool
+is_other_kind kind kinds None = false
+is_other_kind kind kinds (Some w) = not (is_kind kind (slice_get kinds (number_or_0 w)))
+
+abbrev pub is_one_int : List Kind → List Expr → Bool
+is_one_int kinds (e ∷ []) = is_int (expr_kind kinds e)
+is_one_int kinds _ = false
+
+abbrev pub have_no_kinds : Word → List Kind → List Expr → Bool
+have_no_kinds Filter kinds exprs = not (is_one_int kinds exprs)
+have_no_kinds _ kinds exprs = list_any (λ e. is_none (expr_kind kinds e)) exprs
+
+abbrev pub has_bad_kind_on : Option Earlier → Word → List (List ℕ) → Bool
+has_bad_kind_on None word args = false
+has_bad_kind_on (Some e) word args =
+    is_other_kind (column_kind word args) e.kinds (column_word word args) || have_no_kinds word e.kinds (exprs_in word args)
+
+abbrev pub has_bad_kind : Known → Option Word → List (List ℕ) → Bool
+has_bad_kind known None args = false
+has_bad_kind known (Some word) args = has_bad_kind_on (operand_in known word args) word args
+
+-- TooManyColumns: only expressions make rows of more columns
 
 abbrev pub has_too_many_columns : Option Word → List (List ℕ) → Bool
 has_too_many_columns None args = false
@@ -186,11 +230,13 @@ first_cause (test ∷ tests) = if test.applies then Some test.cause else first_c
 
 abbrev pub word_tests : Known → List ℕ → Sentence → Option Word → List Test
 word_tests known bytes s word =
-    record { cause = BadForm; applies = not (list_all is_printable bytes) || has_bad_name s.defines s.word || has_bad_count word s.args }
+    record { cause = BadForm; applies = has_bad_form bytes s word }
     ∷ record { cause = UnknownName; applies = has_unknown_name known word s.args }
     ∷ record { cause = NameTaken; applies = has_taken_name known s.defines }
     ∷ record { cause = UnknownWord; applies = has_unknown_word word s.args }
+    ∷ record { cause = BadNumber; applies = has_bad_number word s.args }
     ∷ record { cause = BadColumn; applies = has_bad_column known word s.args }
+    ∷ record { cause = BadKind; applies = has_bad_kind known word s.args }
     ∷ record { cause = TooManyColumns; applies = has_too_many_columns word s.args }
     ∷ []
 
@@ -200,15 +246,21 @@ pub data LineReading : Type 0 where
   refused : Cause → LineReading
   stated : Statement → List Kind → LineReading
 
+-- the statement that a line without a cause is, and the kinds of its rows
+abbrev pub statement_in : Known → Option (List ℕ) → Word → List (List ℕ) → Statement
+statement_in known name word args = statement_of (unwrap_or name []) word args (said_in (number_of (operand_in known word args)) word args)
+
+abbrev pub kinds_of_line : Known → Word → List (List ℕ) → List Kind
+kinds_of_line known word args = result_kinds word (kinds_in (operand_in known word args)) (exprs_in word args)
+
 abbrev pub reading_of_sentence : Known → Sentence → Option Word → Option Cause → LineReading
 reading_of_sentence known s word (Some cause) = refused cause
 reading_of_sentence known s None None = refused UnknownWord
-reading_of_sentence known s (Some word) None =
-    stated (statement_in known s.defines word s.args) (result_kinds known word s.args)
+reading_of_sentence known s (Some word) None = stated (statement_in known s.defines word s.args) (kinds_of_line known word s.args)
 
 abbrev pub reading_of_parts : Known → List ℕ → Sentence → LineReading
 reading_of_parts known bytes s =
-    let word = word_in known s.defines s.word in
+    let word = word_in s.defines s.word in
     reading_of_sentence known s word (first_cause (word_tests known bytes s word))
 
 abbrev pub line_limit : ℕ
@@ -223,9 +275,8 @@ line_reading known bytes =
 
 -- what is known after a statement on line n
 abbrev pub known_after : Known → ℕ → Statement → List Kind → Known
-known_after known n (line name form) kinds =
-    record { lines = known.lines ++ record { number = n; name = name; kinds = kinds } ∷ []; has_action = known.has_action }
-known_after known n (act action) kinds = record { lines = known.lines; has_action = true }
+known_after known n (line name form) kinds = record { lines = known.lines ++ record { number = n; name = name; kinds = kinds } ∷ [] }
+known_after known n (act action) kinds = known
 
 -- a statement before those that the rest reads as
 abbrev pub onto_script : ℕ → Statement → Result Script (ℕ × Cause) → Result Script (ℕ × Cause)

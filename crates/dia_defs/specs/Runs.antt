@@ -4,7 +4,7 @@ use Rattle.std.specs.List.{flat_map, join_with_byte, sum_by}
 use Rattle.std.specs.Fmt.{decimal}
 use Rattle.dia_defs.specs.Rows.{Cell, int, text, Row}
 use Rattle.dia_defs.specs.Values.{column, number_in, value_of}
-use Rattle.dia_defs.specs.Scripts.{Form, Action, print_action, size_action, sum_action, Statement, line, act, Script, statement_at}
+use Rattle.dia_defs.specs.Scripts.{Action, print_action, size_action, sum_action, Statement, line, act, Script, statement_at}
 use Rattle.dia_defs.specs.Lists.{Inputs, Lists, IsLine, Block, block_of_form, block_of_action, rows_in}
 use Rattle.dia_defs.specs.Work.{Item, do_line, do_action, work_of}
 

@@ -1,5 +1,5 @@
 -- Scripts: statements by line number. Operands are line numbers.
-use Rattle.std.specs.Prelude.{ℕ, List, [], ◌∷◌, Option, None, Some, ◌==◌, if◌then◌else◌}
+use Rattle.std.specs.Prelude.{ℕ, ◌^◌, List, [], ◌∷◌, Option, None, Some, ◌==◌, if◌then◌else◌}
 use Rattle.dia_defs.specs.Values.{Expr}
 
 -- one local line: what it makes of a row rests on that row alone
@@ -14,6 +14,10 @@ pub data Form : Type 0 where
   lines_form : List ℕ → Form  -- an input's lines, by the input's name
   generate_form : ℕ → Form  -- the numbers below this one
   local_form : ℕ → LocalOp → Form  -- the rows that a local line makes of an earlier line's
+
+-- the most numbers that a line may generate
+abbrev pub most_numbers : ℕ
+most_numbers = 2 ^ 32
 
 pub data Action : Type 0 where
   print_action : ℕ → Action

@@ -1,10 +1,10 @@
 -- What holds of every accepted script: numbers rise, each statement names earlier lines, and each expression has a kind.
-use Rattle.std.specs.Prelude.{◌≡◌, ℕ, ◌+◌, ◌^◌, ◌<◌, ◌≤◌, ◌==◌, List, [], ◌∷◌, length, Option, None, Some, IsSome, find, slice_get}
+use Rattle.std.specs.Prelude.{◌≡◌, ℕ, ◌+◌, ◌<◌, ◌≤◌, ◌==◌, List, [], ◌∷◌, length, Option, None, Some, IsSome, find, slice_get}
 use Rattle.std.specs.List.{filter_map}
 use Rattle.dia_defs.specs.declared.kind.Kind.{Kind}
 use Rattle.dia_defs.specs.declared.kind.Kind.TheVariants.{Int, Text}
 use Rattle.dia_defs.specs.Values.{Expr, expr_kind}
-use Rattle.dia_defs.specs.Scripts.{LocalOp, map_op, filter_op, words_op, spread_op, Form, lines_form, generate_form, local_form, Action, print_action, size_action, sum_action, action_operand, Statement, line, act, Numbered, Script}
+use Rattle.dia_defs.specs.Scripts.{LocalOp, map_op, filter_op, words_op, spread_op, Form, lines_form, generate_form, local_form, most_numbers, Action, print_action, size_action, sum_action, action_operand, Statement, line, act, Script}
 use Rattle.dia_defs.specs.Reading.{Earlier, Known, known_after}
 
 -- the earlier line with this number
@@ -27,10 +27,6 @@ IsSoundOp kinds (map_op exprs) = HaveKinds kinds exprs × (0 < length exprs) × 
 IsSoundOp kinds (filter_op e) = expr_kind kinds e ≡ Some Int
 IsSoundOp kinds (words_op c) = slice_get kinds c ≡ Some Text
 IsSoundOp kinds (spread_op c count) = (slice_get kinds c ≡ Some Int) × (1 ≤ count) × (count ≤ 16)
-
--- the most numbers that a line may make
-abbrev pub most_numbers : ℕ
-most_numbers = 2 ^ 32
 
 -- the kinds of the rows that it makes
 abbrev pub op_kinds : List Kind → LocalOp → List Kind

@@ -1,7 +1,7 @@
 -- The work of a script: which lines and actions are done, and in which order.
-use Rattle.std.specs.Prelude.{ℕ, ◌==◌, ◌&&◌, Bool, true, false, not, List, [], ◌∷◌, ◌++◌, map, filter, if◌then◌else◌}
+use Rattle.std.specs.Prelude.{ℕ, ◌==◌, ◌&&◌, Bool, true, false, not, List, [], ◌∷◌, ◌++◌, map, if◌then◌else◌}
 use Rattle.std.specs.List.{list_any}
-use Rattle.dia_defs.specs.Scripts.{Form, Action, action_operand, Statement, line, act, operands_of, Numbered, Script}
+use Rattle.dia_defs.specs.Scripts.{action_operand, Statement, line, act, operands_of, Script}
 
 -- a line or an action that is done, by its number
 pub data Item : Type 0 where

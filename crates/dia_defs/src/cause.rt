@@ -7,13 +7,14 @@ pub enum Cause {
     ScriptLong,
     /// The line has more than 512 bytes.
     LineLong,
-    /// The line has a byte outside 0x20 to 0x7E, a name that is none, or the wrong number of words.
+    /// The line has a byte outside 0x20 to 0x7E, a name that is none, or the wrong number of words, or the words end
+    /// inside an expression.
     BadForm,
     /// An operand isn't the name of an earlier line.
     UnknownName,
     /// The name that is defined is the name of an earlier line.
     NameTaken,
-    /// A statement or action word, or a word where an expression begins, isn't known.
+    /// A statement or action word, a selector, or a word where an expression begins, isn't known.
     UnknownWord,
     /// A number isn't 1 to 20 decimal digits below 2^64, or is outside its range.
     BadNumber,

@@ -19,7 +19,7 @@ mod through;
 
 pub use chain::Chain;
 pub use local_op::LocalOp;
-pub use script_op::ScriptOp;
+pub use script_op::{ScriptOp, copy_exprs};
 pub use sink::RowSink;
 pub use then::Then;
 

@@ -28,7 +28,7 @@ pub enum ScriptOp {
 }
 
 /// The same expressions.
-fn copy_exprs(alloc: Global, exprs: &[Expr]) -> Result<Vec<Expr>, NoMemory>
+pub fn copy_exprs(alloc: Global, exprs: &[Expr]) -> Result<Vec<Expr>, NoMemory>
     ensures { IfOk result (λ copies. exprs_in copies.items ≡ exprs_in exprs.now) }
 {
     let mut copies = Vec::new(alloc);

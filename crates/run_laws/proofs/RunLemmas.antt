@@ -249,7 +249,7 @@ ready_at script done (do_line m ∷ items) n all h = elim (or_cases (eqb m n) (h
 ]
 ready_at script done (do_action m ∷ items) n all h = ready_at script done items n all.1 h
 
-right_at : (script : Script) (inputs : Inputs) (lists : Lists) (items : List Item) (n : ℕ) → AllByRecursion (IsRight script inputs lists) items
+pub right_at : (script : Script) (inputs : Inputs) (lists : Lists) (items : List Item) (n : ℕ) → AllByRecursion (IsRight script inputs lists) items
     → has_number (lines_among items) n ≡ true → IsRight script inputs lists (do_line n)
 right_at script inputs lists [] n all h = absurd (true≢false (sym h))
 right_at script inputs lists (do_line m ∷ items) n all h = elim (or_cases (eqb m n) (has_number (lines_among items) n) h) [

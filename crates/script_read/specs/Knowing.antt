@@ -2,6 +2,7 @@
 use Rattle.std.specs.Prelude.{ℕ, Bool, List, map, Option, find}
 use Rattle.std.specs.Borrow.{Bor}
 use Rattle.std.specs.Str.{bytes_eq}
+use Rattle.dia_defs.specs.declared.kind.Kind.{Kind}
 use Rattle.dia_defs.specs.Reading.{Earlier, Known}
 use Rattle.dia_item.specs.KindList.{kind_list}
 use Rattle.script_read.specs.declared.known.Earlier as earliers
@@ -13,8 +14,11 @@ earlier_in e = record { number = e.number; name = e.name; kinds = kind_list e.ki
 abbrev pub earlier_at : Bor earliers.Earlier → Earlier
 earlier_at e = earlier_in e.now
 
+abbrev pub kind_at : Bor Kind → Kind
+kind_at k = k.now
+
 abbrev pub known_in : knowns.Known → Known
-known_in k = record { lines = map earlier_in k.lines.items; has_action = k.has_action }
+known_in k = record { lines = map earlier_in k.lines.items }
 
 -- whether an earlier line has the name
 abbrev pub named_in : List ℕ → earliers.Earlier → Bool

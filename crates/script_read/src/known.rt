@@ -1,11 +1,11 @@
 //! What is known before a line: the earlier lines.
 ghost use Rattle.std.specs.Prelude.{◌≡◌};
 ghost use Rattle.std.specs.Option.{option_map};
-ghost use Rattle.dia_defs.specs.Reading.{earlier_named, statement_word, action_word, word_in};
+ghost use Rattle.dia_defs.specs.Reading.{earlier_named, operand_in};
 ghost use Rattle.script_read.specs.Knowing.{known_in, earlier_at, named_in, named_among};
-ghost use Rattle.script_read.specs.Sentences.{sentence_in};
+ghost use Rattle.script_read.specs.Sentences.{words_in};
 
-use crate::sentence::Sentence;
+use crate::forms::operand_words;
 use dia_defs::Word;
 use dia_edge::Name;
 use dia_item::Kinds;
@@ -22,7 +22,6 @@ pub(crate) struct Earlier {
 #[derive(Drop)]
 pub(crate) struct Known {
     pub lines: Vec<Earlier>,
-    pub has_action: bool,
 }
 
 fn is_named(line: &Earlier, word: &[u8]) -> bool
@@ -42,25 +41,6 @@ fn find_named<'k>(lines: &'k [Earlier], word: &[u8]) -> Option<&'k Earlier>
     None
 }
 
-fn statement_word(word: &[u8]) -> Option<Word>
-    ensures { result ≡ statement_word word.now }
-{
-    match word {
-        b"lines" => Some(Word::Lines),
-        b"map" => Some(Word::Map),
-        _ => None,
-    }
-}
-
-fn action_word(has_action: bool, word: &[u8]) -> Option<Word>
-    ensures { result ≡ action_word has_action word.now }
-{
-    match word {
-        b"print" if !has_action => Some(Word::Print),
-        _ => None,
-    }
-}
-
 impl Known {
     /// The earlier line with this name.
     pub(crate) fn named(&self, word: &[u8]) -> Option<&Earlier>
@@ -69,13 +49,10 @@ impl Known {
         find_named(self.lines.as_slice(), word)
     }
 
-    /// The statement or action word of a line, where it is known.
-    pub(crate) fn word_of(&self, s: &Sentence<'_, '_>) -> Option<Word>
-        ensures { result ≡ word_in (known_in self.now) (sentence_in s.now).defines (sentence_in s.now).word }
+    /// The line that the first operand names.
+    pub(crate) fn operand(&self, word: Word, args: &[&[u8]]) -> Option<&Earlier>
+        ensures { option_map earlier_at result ≡ operand_in (known_in self.now) word (words_in args.now) }
     {
-        match s.defines {
-            Some(_) => statement_word(s.word),
-            None => action_word(self.has_action, s.word),
-        }
+        self.named(operand_words(word, args).first()?)
     }
 }

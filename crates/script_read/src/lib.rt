@@ -6,9 +6,12 @@
 #![tactic(auto)]
 
 mod causes;
+mod exprs;
+mod forms;
 mod known;
 mod line;
 mod names;
+mod numbers;
 mod reader;
 mod script;
 mod sentence;

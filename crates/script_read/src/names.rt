@@ -3,6 +3,8 @@ ghost use Rattle.std.specs.Prelude.{◌≡◌, ◌∷◌, length};
 ghost use Rattle.std.specs.List.{list_all};
 ghost use Rattle.dia_defs.specs.Reading.{is_lower, is_name_byte, is_name, is_printable};
 
+use crate::numbers::is_digit;
+
 fn is_lower(b: u8) -> bool
     ensures { result ≡ is_lower b }
 {
@@ -12,7 +14,7 @@ fn is_lower(b: u8) -> bool
 fn is_name_byte(b: u8) -> bool
     ensures { result ≡ is_name_byte b }
 {
-    is_lower(b) || (48 <= b && b <= 57) || b == b'_'
+    is_lower(b) || is_digit(b) || b == b'_'
 }
 
 fn are_name_bytes(bytes: &[u8]) -> bool

@@ -93,7 +93,6 @@ impl Reader {
         ensures statements { OnOk result (map numbered_in self.new.statements.items
             ≡ map numbered_in self.old.statements.items ++ record { number = n; statement = act (action_in action) } ∷ []) }
     {
-        self.known.has_action = true;
         self.statements.push(Numbered {
             line: n,
             statement: Statement::Act(action),
@@ -144,7 +143,6 @@ fn read_lines(alloc: Global, bytes: &[u8]) -> Result<Script, ReadErr>
     let mut reader = Reader {
         known: Known {
             lines: Vec::new(alloc),
-            has_action: false,
         },
         statements: Vec::new(alloc),
     };

@@ -11,12 +11,40 @@ pub enum Form {
         /// The input's name.
         input: Name,
     },
+    /// The numbers from 0 on, each a row.
+    Generate {
+        /// How many: at most 2^32.
+        count: u64,
+    },
     /// One row for each row of an earlier line.
     Map {
         /// The earlier line.
         of: u32,
         /// The columns of the new row.
         exprs: Vec<Expr>,
+    },
+    /// The rows of an earlier line for which a number isn't 0.
+    Filter {
+        /// The earlier line.
+        of: u32,
+        /// The number.
+        test: Expr,
+    },
+    /// For each word of a column the row, with the word in the column's place.
+    Words {
+        /// The earlier line.
+        of: u32,
+        /// The column, which is a text.
+        column: u32,
+    },
+    /// For each number below another the row, with the number added to a column.
+    Spread {
+        /// The earlier line.
+        of: u32,
+        /// The column, which is a number.
+        column: u32,
+        /// How many rows are made of one: 1 to 16.
+        count: u32,
     },
 }
 
@@ -27,6 +55,18 @@ pub enum Action {
     Print {
         /// The line whose rows are printed.
         of: u32,
+    },
+    /// Prints how many rows there are.
+    Size {
+        /// The line whose rows are counted.
+        of: u32,
+    },
+    /// Prints the sum of a column.
+    Sum {
+        /// The line whose rows are added up.
+        of: u32,
+        /// The column, which is a number.
+        column: u32,
     },
 }
 

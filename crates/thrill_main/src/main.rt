@@ -5,6 +5,7 @@ use dia_edge::{DirShelf, MemDisk, Name, NoMemory, OpenGate, StdSink};
 use std::alloc::Global;
 use std::env;
 use std::process::ExitCode;
+use std::sync::Wait;
 use thrill_top::thrill_call;
 
 // the status of a call that found no memory for its words
@@ -22,7 +23,7 @@ fn words_of(rt: &HostRuntime, alloc: Global) -> Result<Vec<Name>, NoMemory> {
     Ok(words)
 }
 
-fn run(rt: HostRuntime) -> Result<u8, NoMemory> {
+fn run<R: Wait>(wait: &R, rt: HostRuntime) -> Result<u8, NoMemory> {
     let alloc = rt.alloc();
     let words = words_of(&rt, alloc)?;
     let mut shelf = DirShelf::new(rt);
@@ -30,6 +31,7 @@ fn run(rt: HostRuntime) -> Result<u8, NoMemory> {
     let mut err = StdSink::err(rt);
     let disk = MemDisk::new(alloc, Vec::new(alloc));
     let end = thrill_call(
+        wait,
         alloc,
         words.as_slice(),
         &mut shelf,
@@ -42,7 +44,7 @@ fn run(rt: HostRuntime) -> Result<u8, NoMemory> {
 }
 
 fn main(rt: HostRuntime) -> ExitCode {
-    match run(rt) {
+    match run(&rt, rt) {
         Ok(status) => ExitCode::from(status),
         Err(NoMemory) => ExitCode::from(NO_MEMORY),
     }

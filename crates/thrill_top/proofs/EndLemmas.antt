@@ -1,19 +1,19 @@
 -- How a call ends.
-use Rattle.std.proofs.Common.{◌≡◌, ◌≢◌, ◌⊎◌, inl, inr, ℕ, zero, suc, ◌+◌, ◌-◌, ◌^◌, ◌<◌, ◌≤◌, min, List, [], ◌∷◌, ◌++◌, length, drop, Option, None, Some, MatchOption, Result, Ok, Err, IfErr, refl, sym, ap, subst, ◌∙◌, arith, append-nil}
-use Rattle.std.specs.Prelude.{All, Contains, slice_index_or}
+use Rattle.std.proofs.Common.{◌≡◌, ◌≢◌, ◌⊎◌, inl, inr, ℕ, zero, suc, ◌<◌, ◌≤◌, List, [], ◌∷◌, ◌++◌, drop, Option, None, Some, MatchOption, Result, Ok, Err, refl, sym, ap, subst, ◌∙◌, arith, append-nil}
+use Rattle.std.specs.Prelude.{All, Contains}
 use Rattle.std.proofs.lemmas.List.Elements.{All-contains}
 use Rattle.dia_defs.specs.declared.cause.Cause.{Cause}
-use Rattle.dia_defs.specs.Scripts.{lines_form, line, Statement, Script, statement_at}
-use Rattle.dia_defs.specs.Reading.{reading_of, ReadsAs, IsRefused}
-use Rattle.dia_defs.specs.Lists.{Inputs, Lists, Block, missing, line_too_long, input_too_long}
+use Rattle.dia_defs.specs.Scripts.{Script}
+use Rattle.dia_defs.specs.Reading.{reading_of}
+use Rattle.dia_defs.specs.Lists.{Inputs, Block, missing, line_too_long, input_too_long}
 use Rattle.dia_defs.specs.Work.{Item, do_line, work_of}
 use Rattle.dia_defs.specs.Runs.{block_of, block_of_statement}
-use Rattle.dia_edge.specs.Counts.{HasRisen, raised}
+use Rattle.dia_edge.specs.Counts.{HasRisen}
 use Rattle.thrill_top.specs.declared.fault.TopFault.{TopFault}
 use Rattle.thrill_top.specs.declared.fault.TopFault.TheVariants as faults
 use Rattle.thrill_top.specs.Faults.{fault_status}
-use Rattle.thrill_top.specs.Ends.{IsShelfFault, IsOutFault, IsBytesFault, IsAbsentScript, IsSourceFault, IsPrintFault, IsNoUsage, IsWorkFault, IfScript, IsRunFault, IsScriptFault, IsScriptReason}
-use Rattle.thrill_top.specs.Promise.{IsStopped, RunEnd, IsAccepted, IsBadScript, CallEnd, EndsRun, EndsCall, IsRefusedScript, IsOpen, IsReadable, IsRefusedWith, IsAbsentWith, IsExcused}
+use Rattle.thrill_top.specs.Ends.{IsShelfFault, IsOutFault, IsBytesFault, IsAbsentScript, IsSourceFault, IsActionFault, IsWorkFault, IfScript, IsRunFault, IsScriptFault, IsScriptReason}
+use Rattle.thrill_top.specs.Promise.{IsStopped, IsAccepted, CallEnd, EndsRun, EndsCall, IsRefusedScript, IsOpen, IsReadable, IsRefusedWith, IsAbsentWith, IsExcused, IsTooMany, HasNoTooMany, IsWhole}
 
 -- counts --------------------------------------------------------------------------------------------------------------
 
@@ -28,6 +28,7 @@ pub source_run : (f : TopFault) (a b c d : ℕ) → IsSourceFault f → IsShelfF
 source_run faults.Usage a b c d kind h = absurd kind
 source_run (faults.Script n cause) a b c d kind h = absurd kind
 source_run (faults.WriteFault count) a b c d kind h = absurd kind
+source_run (faults.TooManyRows n) a b c d kind h = absurd kind
 source_run (faults.Missing name) a b c d kind h = record { shelf = tt; out = tt; usage = tt }
 source_run (faults.LineTooLong name n) a b c d kind h = record { shelf = tt; out = tt; usage = tt }
 source_run (faults.InputTooLong name) a b c d kind h = record { shelf = tt; out = tt; usage = tt }
@@ -38,6 +39,7 @@ pub source_work : (f : TopFault) → IsSourceFault f → IsWorkFault f
 source_work faults.Usage kind = absurd kind
 source_work (faults.Script n cause) kind = absurd kind
 source_work (faults.WriteFault count) kind = absurd kind
+source_work (faults.TooManyRows n) kind = absurd kind
 source_work (faults.Missing name) kind = tt
 source_work (faults.LineTooLong name n) kind = tt
 source_work (faults.InputTooLong name) kind = tt
@@ -53,11 +55,13 @@ bytes_source (faults.Script n cause) kind = absurd kind
 bytes_source (faults.LineTooLong name n) kind = absurd kind
 bytes_source (faults.InputTooLong name) kind = absurd kind
 bytes_source (faults.WriteFault count) kind = absurd kind
+bytes_source (faults.TooManyRows n) kind = absurd kind
 
 -- a fault of printing
-pub print_run : (f : TopFault) (a b c d : ℕ) → IsPrintFault f → IsOutFault f c d → IsRunFault f a b c d
+pub print_run : (f : TopFault) (a b c d : ℕ) → IsActionFault f → IsOutFault f c d → IsRunFault f a b c d
 print_run (faults.WriteFault count) a b c d kind h = record { shelf = tt; out = h; usage = tt }
 print_run faults.NoMemory a b c d kind h = record { shelf = tt; out = tt; usage = tt }
+print_run (faults.TooManyRows n) a b c d kind h = record { shelf = tt; out = tt; usage = tt }
 print_run faults.Usage a b c d kind h = absurd kind
 print_run (faults.Script n cause) a b c d kind h = absurd kind
 print_run (faults.Missing name) a b c d kind h = absurd kind
@@ -65,9 +69,10 @@ print_run (faults.LineTooLong name n) a b c d kind h = absurd kind
 print_run (faults.InputTooLong name) a b c d kind h = absurd kind
 print_run (faults.ReadFault count) a b c d kind h = absurd kind
 
-pub print_work : (f : TopFault) → IsPrintFault f → IsWorkFault f
+pub print_work : (f : TopFault) → IsActionFault f → IsWorkFault f
 print_work (faults.WriteFault count) kind = tt
 print_work faults.NoMemory kind = tt
+print_work (faults.TooManyRows n) kind = tt
 print_work faults.Usage kind = absurd kind
 print_work (faults.Script n cause) kind = absurd kind
 print_work (faults.Missing name) kind = absurd kind
@@ -84,6 +89,7 @@ script_run (faults.LineTooLong name n) a b c d kind = absurd kind
 script_run (faults.InputTooLong name) a b c d kind = absurd kind
 script_run (faults.ReadFault count) a b c d kind = absurd kind
 script_run (faults.WriteFault count) a b c d kind = absurd kind
+script_run (faults.TooManyRows n) a b c d kind = absurd kind
 
 -- a fault behind what was done before
 pub run_since : (f : TopFault) (a b c d e k : ℕ) → a ≤ b → d ≤ e → IsRunFault f b c e k → IsRunFault f a c d k
@@ -92,6 +98,7 @@ run_since (faults.Script n cause) a b c d e k low under h = record { shelf = tt;
 run_since (faults.Missing name) a b c d e k low under h = record { shelf = tt; out = tt; usage = tt }
 run_since (faults.LineTooLong name n) a b c d e k low under h = record { shelf = tt; out = tt; usage = tt }
 run_since (faults.InputTooLong name) a b c d e k low under h = record { shelf = tt; out = tt; usage = tt }
+run_since (faults.TooManyRows n) a b c d e k low under h = record { shelf = tt; out = tt; usage = tt }
 run_since (faults.ReadFault count) a b c d e k low under h = record { shelf = (risen_since a b c low h.shelf.0, h.shelf.1); out = tt; usage = tt }
 run_since (faults.WriteFault count) a b c d e k low under h = record { shelf = tt; out = (risen_since d e k under h.out.0, h.out.1); usage = tt }
 run_since faults.NoMemory a b c d e k low under h = record { shelf = tt; out = tt; usage = tt }
@@ -102,6 +109,7 @@ work_before (faults.Script n cause) P kind = absurd kind
 work_before (faults.Missing name) P kind = tt
 work_before (faults.LineTooLong name n) P kind = tt
 work_before (faults.InputTooLong name) P kind = tt
+work_before (faults.TooManyRows n) P kind = tt
 work_before (faults.ReadFault count) P kind = tt
 work_before (faults.WriteFault count) P kind = tt
 work_before faults.NoMemory P kind = tt
@@ -112,6 +120,7 @@ script_before (faults.Script n cause) P p = p
 script_before (faults.Missing name) P p = tt
 script_before (faults.LineTooLong name n) P p = tt
 script_before (faults.InputTooLong name) P p = tt
+script_before (faults.TooManyRows n) P p = tt
 script_before (faults.ReadFault count) P p = tt
 script_before (faults.WriteFault count) P p = tt
 script_before faults.NoMemory P p = tt
@@ -133,6 +142,7 @@ status_says (faults.Script n cause) a b c d P h p = record { usage = λ e. cc; s
 status_says (faults.Missing name) a b c d P h p = record { usage = λ e. cc; some = λ e. cc; read = λ e. absurd (omega arith); write = λ e. absurd (omega arith); untouched = neither 4 P (omega arith) }
 status_says (faults.LineTooLong name n) a b c d P h p = record { usage = λ e. cc; some = λ e. cc; read = λ e. absurd (omega arith); write = λ e. absurd (omega arith); untouched = neither 5 P (omega arith) }
 status_says (faults.InputTooLong name) a b c d P h p = record { usage = λ e. cc; some = λ e. cc; read = λ e. absurd (omega arith); write = λ e. absurd (omega arith); untouched = neither 5 P (omega arith) }
+status_says (faults.TooManyRows n) a b c d P h p = record { usage = λ e. cc; some = λ e. cc; read = λ e. absurd (omega arith); write = λ e. absurd (omega arith); untouched = neither 7 P (omega arith) }
 status_says (faults.ReadFault count) a b c d P h p = record { usage = λ e. cc; some = λ e. cc; read = λ e. h.shelf.0; write = λ e. absurd (omega arith); untouched = neither 8 P (omega arith) }
 status_says (faults.WriteFault count) a b c d P h p = record { usage = λ e. cc; some = λ e. cc; read = λ e. absurd (omega arith); write = λ e. h.out.0; untouched = neither 9 P (omega arith) }
 status_says faults.NoMemory a b c d P h p = record { usage = λ e. cc; some = λ e. cc; read = λ e. absurd (omega arith); write = λ e. absurd (omega arith); untouched = neither 12 P (omega arith) }
@@ -152,6 +162,7 @@ bytes_end inputs name (faults.Script n cause) kind h = absurd kind
 bytes_end inputs name (faults.LineTooLong long n) kind h = absurd kind
 bytes_end inputs name (faults.InputTooLong long) kind h = absurd kind
 bytes_end inputs name (faults.WriteFault count) kind h = absurd kind
+bytes_end inputs name (faults.TooManyRows n) kind h = absurd kind
 
 pub bytes_ends : (inputs : Inputs) (name start : List ℕ) (taken : Option (List ℕ)) (f : TopFault) → taken ≡ Some start → IsBytesFault f → IsAbsentScript f inputs name
     → EndsCall inputs name start (Some f) taken
@@ -167,6 +178,7 @@ script_end inputs name (faults.LineTooLong long n) all kind h there = absurd kin
 script_end inputs name (faults.InputTooLong long) all kind h there = absurd kind
 script_end inputs name (faults.ReadFault count) all kind h there = absurd kind
 script_end inputs name (faults.WriteFault count) all kind h there = absurd kind
+script_end inputs name (faults.TooManyRows n) all kind h there = absurd kind
 
 pub script_ends : (inputs : Inputs) (name start : List ℕ) (taken : Option (List ℕ)) (f : TopFault) (all : List ℕ) → taken ≡ Some start → IsScriptFault f
     → IsScriptReason f (reading_of all) → inputs name ≡ Some all → EndsCall inputs name start (Some f) taken
@@ -179,6 +191,7 @@ accepted_end inputs name (Some (faults.Script n cause)) took h = absurd h.end
 accepted_end inputs name (Some (faults.Missing absent)) took h = inr h
 accepted_end inputs name (Some (faults.LineTooLong long n)) took h = h
 accepted_end inputs name (Some (faults.InputTooLong long)) took h = h
+accepted_end inputs name (Some (faults.TooManyRows n)) took h = h
 accepted_end inputs name (Some (faults.ReadFault count)) took h = inr h
 accepted_end inputs name (Some (faults.WriteFault count)) took h = h
 accepted_end inputs name (Some faults.NoMemory) took h = inr h
@@ -230,6 +243,7 @@ refused_end inputs name (Some (faults.Missing absent)) took n cause status r e i
 ]
 refused_end inputs name (Some (faults.LineTooLong long m)) took n cause status r e is = never_accepted inputs name (Some (faults.LineTooLong long m)) took n cause _ r e
 refused_end inputs name (Some (faults.InputTooLong long)) took n cause status r e is = never_accepted inputs name (Some (faults.InputTooLong long)) took n cause _ r e
+refused_end inputs name (Some (faults.TooManyRows m)) took n cause status r e is = never_accepted inputs name (Some (faults.TooManyRows m)) took n cause _ r e
 refused_end inputs name (Some (faults.ReadFault count)) took n cause status r e is = inr (inl is)
 refused_end inputs name (Some (faults.WriteFault count)) took n cause status r e is = inr (inr (inl is))
 refused_end inputs name (Some faults.NoMemory) took n cause status r e is = inr (inr (inr is))
@@ -250,6 +264,7 @@ absent_end inputs name (Some (faults.Missing absent)) took status none e is = el
 ]
 absent_end inputs name (Some (faults.LineTooLong long n)) took status none e is = never_there inputs name e.bytes _ none e.there
 absent_end inputs name (Some (faults.InputTooLong long)) took status none e is = never_there inputs name e.bytes _ none e.there
+absent_end inputs name (Some (faults.TooManyRows n)) took status none e is = never_there inputs name e.bytes _ none e.there
 absent_end inputs name (Some (faults.ReadFault count)) took status none e is = inr (inl is)
 absent_end inputs name (Some (faults.WriteFault count)) took status none e is = inr (inr (inl is))
 absent_end inputs name (Some faults.NoMemory) took status none e is = inr (inr (inr is))
@@ -280,10 +295,28 @@ never_stopped inputs name script fault took input cause P r a s =
     let wrong : ⊥ = cc in
     absurd wrong
 
+never_many : (inputs : Inputs) (name : List ℕ) (script : Script) (fault : Option TopFault) (took : List ℕ) (n : ℕ) (P : Type 0)
+    → IsReadable inputs name script → (a : IsAccepted inputs name fault took) → IsTooMany a.script inputs n took → HasNoTooMany script inputs → P
+never_many inputs name script fault took n P r a many none =
+    let same : a.bytes ≡ r.bytes = some_bytes a.bytes r.bytes (sym a.there ∙ r.there) in
+    let both : ok_of a.script ≡ ok_of script = sym a.reads ∙ ap reading_of same ∙ r.reads in
+    let one : a.script ≡ script = cc in
+    let Many : Script → Type 0 = λ x. IsTooMany x inputs n took in
+    absurd (none n took (subst Many one many))
+
+abbrev Whole : Script → Inputs → ℕ → Type 0
+Whole script inputs status = IsWhole script inputs status
+
+pub whole_0 : (script : Script) (inputs : Inputs) (status : ℕ) → status ≡ 0 → IsWhole script inputs status
+whole_0 script inputs status is = (inl is, λ none. inl is)
+
+whole_12 : (script : Script) (inputs : Inputs) (status : ℕ) → status ≡ 12 → Whole script inputs status
+whole_12 script inputs status is = (inr (inr is), λ none. inr is)
+
 complete_end : (inputs : Inputs) (name : List ℕ) (script : Script) (fault : Option TopFault) (took : List ℕ) (status a b c d : ℕ) → IsReadable inputs name script
     → CallEnd inputs name fault took → MatchOption fault (status ≡ 0) (λ f. status ≡ fault_status f) → MatchOption fault (Unit {0}) (λ f. IsRunFault f a b c d)
-    → (HasRisen a b → ⊥) → (HasRisen c d → ⊥) → (status ≡ 0) ⊎ (status ≡ 12)
-complete_end inputs name script None took status a b c d r e is h shelf out = inl is
+    → (HasRisen a b → ⊥) → (HasRisen c d → ⊥) → Whole script inputs status
+complete_end inputs name script None took status a b c d r e is h shelf out = whole_0 script inputs status is
 complete_end inputs name script (Some faults.Usage) took status a b c d r e is h shelf out = absurd e
 complete_end inputs name script (Some (faults.Script n cause)) took status a b c d r e is h shelf out =
     let same : e.bytes ≡ r.bytes = some_bytes e.bytes r.bytes (sym e.there ∙ r.there) in
@@ -298,13 +331,15 @@ complete_end inputs name script (Some (faults.LineTooLong long n)) took status a
     never_stopped inputs name script (Some (faults.LineTooLong long n)) took long (line_too_long n) _ r e e.end
 complete_end inputs name script (Some (faults.InputTooLong long)) took status a b c d r e is h shelf out =
     never_stopped inputs name script (Some (faults.InputTooLong long)) took long input_too_long _ r e e.end
+complete_end inputs name script (Some (faults.TooManyRows n)) took status a b c d r e is h shelf out =
+    (inr (inl is), λ none. never_many inputs name script (Some (faults.TooManyRows n)) took n _ r e e.end none)
 complete_end inputs name script (Some (faults.ReadFault count)) took status a b c d r e is h shelf out = absurd (shelf h.shelf.0)
 complete_end inputs name script (Some (faults.WriteFault count)) took status a b c d r e is h shelf out = absurd (out h.out.0)
-complete_end inputs name script (Some faults.NoMemory) took status a b c d r e is h shelf out = inr is
+complete_end inputs name script (Some faults.NoMemory) took status a b c d r e is h shelf out = whole_12 script inputs status is
 
 pub complete_so : (inputs : Inputs) (name start : List ℕ) (script : Script) (taken : Option (List ℕ)) (fault : Option TopFault) (status a b c d : ℕ)
     → EndsCall inputs name start fault taken → MatchOption fault (status ≡ 0) (λ f. status ≡ fault_status f) → MatchOption fault (Unit {0}) (λ f. IsRunFault f a b c d)
-    → IsReadable inputs name script → (HasRisen a b → ⊥) → (HasRisen c d → ⊥) → (status ≡ 0) ⊎ (status ≡ 12)
+    → IsReadable inputs name script → (HasRisen a b → ⊥) → (HasRisen c d → ⊥) → IsWhole script inputs status
 complete_so inputs name start script taken fault status a b c d e is h r shelf out = complete_end inputs name script fault e.took status a b c d r e.end is h shelf out
 
 pub ends_named : (inputs : Inputs) (real name start : List ℕ) (fault : Option TopFault) (taken : Option (List ℕ)) (named : Option (List ℕ)) → Some real ≡ named → named ≡ Some name

@@ -1,13 +1,10 @@
 -- The bytes of a script.
-use Rattle.std.proofs.Common.{◌≡◌, ℕ, zero, suc, ◌+◌, ◌-◌, ◌<◌, ◌≤◌, Bool, true, false, ◌||◌, cond, ltb, List, [], ◌∷◌, ◌++◌, length, take, drop, Option, None, Some, Result, Ok, Err, IfOk, IfErr, IfSome, IsSome, refl, sym, ap, ◌∙◌, subst, arith, append_assoc, length-append, length-take}
+use Rattle.std.proofs.Common.{◌≡◌, ℕ, ◌+◌, ◌-◌, ◌<◌, ◌≤◌, true, false, ltb, List, [], ◌∷◌, ◌++◌, length, take, Option, None, Some, Result, Ok, Err, IfOk, IfSome, IsSome, refl, sym, ap, ◌∙◌, subst, arith, append_assoc, length-take}
 use Rattle.std.proofs.lemmas.Bool.{ltb-true, ltb-false, lt-ltb, true≢false}
 use Rattle.std.proofs.lemmas.List.{take_all}
 use Rattle.std.proofs.Math.Seq.{take-append-add}
-use Rattle.dia_defs.specs.declared.cause.Cause.{Cause}
 use Rattle.dia_defs.specs.declared.cause.Cause.TheVariants.{ScriptLong}
-use Rattle.dia_defs.specs.Scripts.{Script}
-use Rattle.dia_defs.specs.Pieces.{lines_of}
-use Rattle.dia_defs.specs.Reading.{reading_of, reading_from, nothing_known, script_limit, script_lines_limit}
+use Rattle.dia_defs.specs.Reading.{reading_of, script_limit, script_lines_limit}
 use Rattle.dia_defs.specs.Lists.{Inputs}
 use Rattle.dia_edge.specs.Shelves.{Holdings, GivesFront, IsOpened, IsAtEnd}
 

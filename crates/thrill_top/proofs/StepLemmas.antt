@@ -1,38 +1,27 @@
 -- How each item of the work goes on.
-use Rattle.std.proofs.Common.{◌≡◌, ℕ, zero, suc, ◌+◌, ◌^◌, ◌<◌, ◌≤◌, Bool, true, false, ◌||◌, cond, eqb, ltb, List, [], ◌∷◌, ◌++◌, length, map, take, drop, Option, None, Some, is_some, IsSome, IfSome, Result, Ok, Err, OnOk, OnErr, IfErr, find, refl, sym, ap, ◌∙◌, subst, arith, inl, inr, append_assoc, append-nil, length-append}
+use Rattle.std.proofs.Common.{◌≡◌, ℕ, suc, ◌+◌, ◌≤◌, Bool, true, false, cond, eqb, ltb, List, [], ◌∷◌, ◌++◌, length, map, Option, None, Some, is_some, IsSome, IfSome, Result, Ok, Err, OnOk, OnErr, IfErr, find, refl, sym, ap, ◌∙◌, subst, arith, inl, inr, append_assoc, append-nil, length-append}
 use Rattle.std.specs.Option.{option_map}
-use Rattle.std.specs.List.{AllByRecursion, flat_map}
-use Rattle.std.proofs.lemmas.Bool.{or_left, or_right, true≢false, eqb-true, eq-eqb, ne_eqb, ltb-false, ltb-true}
-use Rattle.std.proofs.lemmas.List.Concat.{flat_map-append}
-use Rattle.dia_defs.specs.declared.kind.Kind.{Kind}
-use Rattle.dia_defs.specs.declared.kind.Kind.TheVariants.{Text}
+use Rattle.std.specs.List.{AllByRecursion, flat_map, range_with_len}
+use Rattle.std.proofs.lemmas.Bool.{true≢false, eqb-true, eq-eqb, ltb-false}
 use Rattle.dia_defs.specs.Rows.{Row}
-use Rattle.dia_defs.specs.Pieces.{last_piece, pieces_from, lines_of, line_rows, line_row, line_feed}
-use Rattle.dia_defs.specs.Values.{Expr}
-use Rattle.dia_defs.specs.Scripts.{LocalOp, map_op, Form, lines_form, generate_form, local_form, form_operands, Action, print_action, action_operand, Statement, line, act, Script, statement_at}
-use Rattle.dia_defs.specs.Lists.{Inputs, Lists, IsLine, Block, missing, line_too_long, input_too_long, longest_input, most_rows, block_of_input, block_of_long_line, long_line, block_of_form, block_of_action, rows_in, rows_made, rows_through}
-use Rattle.dia_defs.specs.Work.{Item, do_line, do_action, has_number, work_of}
-use Rattle.dia_defs.specs.Runs.{IsRun, block_of, block_of_statement, action_text, run_texts, row_text}
+use Rattle.dia_defs.specs.Pieces.{pieces_from, lines_of, line_rows, line_row, line_feed}
+use Rattle.dia_defs.specs.Scripts.{LocalOp, Form, lines_form, generate_form, local_form, form_operands, line, Script, statement_at}
+use Rattle.dia_defs.specs.Lists.{Inputs, Lists, Block, missing, line_too_long, input_too_long, number_row, longest_input, block_of_input, block_of_long_line, long_line, rows_made}
+use Rattle.dia_defs.specs.Work.{Item, do_line, has_number, work_of}
+use Rattle.dia_defs.specs.Runs.{block_of_statement}
 use Rattle.dia_edge.specs.Shelves.{Holdings}
-use Rattle.dia_edge.specs.Sinks.{TookAll, TookFront}
 use Rattle.dia_lines.specs.Inputs.{IsInput}
-use Rattle.script_read.specs.declared.statement.Action as actions
-use Rattle.script_read.specs.declared.statement.Action.TheVariants.{Print}
-use Rattle.script_read.specs.Statements.{action_in}
-use Rattle.run_laws.specs.Order.{lines_among, IsReadyLine, IsReadyAction, InWork}
-use Rattle.run_laws.specs.Laws.{IsRunOf, texts_among, with_list, no_lists, IsChain}
-use Rattle.run_laws.proofs.WorkLemmas.{or_cases, has_cases, has_left, is_one, every_map}
-use Rattle.run_laws.proofs.RunLemmas.{begins, goes_on, line_goes_on, action_goes_on, runs_are_runs, roots_are_done, chains_make, ready_at, grows_with, lines_push_line, lines_push_action, every_push, some_there, listed_there, some_rows, some_statement}
+use Rattle.run_laws.specs.Order.{lines_among, InWork}
+use Rattle.run_laws.specs.Laws.{texts_among, with_list, no_lists}
+use Rattle.run_laws.proofs.WorkLemmas.{has_cases, is_one, every_map}
+use Rattle.run_laws.proofs.RunLemmas.{begins, goes_on, line_goes_on, runs_are_runs, grows_with, lines_push_line, every_push, some_there, listed_there, some_rows}
 use Rattle.thrill_top.specs.declared.kept.Kept.{Kept}
 use Rattle.thrill_top.specs.declared.making.Made.{Made}
 use Rattle.thrill_top.specs.declared.fault.TopFault.{TopFault}
 use Rattle.thrill_top.specs.declared.fault.TopFault.TheVariants as faults
-use Rattle.thrill_top.specs.Chains.{maps_in, mapped, values_of, ops_of, texts_of, AreSoundMaps}
-use Rattle.thrill_top.specs.Ends.{IsSourceFault, IsSourceBlock, IsPrintFault}
-use Rattle.thrill_top.specs.Making.{IsRooted, IsMade, AreChains, with_number}
+use Rattle.thrill_top.specs.Ends.{IsSourceFault, IsSourceBlock}
 use Rattle.thrill_top.specs.Promise.{TellsInputs, IsDone, IsStopped, IsCutOff, RunEnd, EndsRun, fault_in}
-use Rattle.thrill_top.specs.Steps.{kept_at, AreLines, AreKept, IsMidway, IsListed, IsAt, GoesOn, Stops, KeepsOn}
-use Rattle.thrill_top.proofs.MakingLemmas.{IsFound, chain_found}
+use Rattle.thrill_top.specs.Steps.{kept_at, AreLines, IsMidway, IsListed, IsAt, GoesOn, Stops, KeepsOn, IsNoInput}
 
 pub OnOk-map : {T E : Type 0} (r : Result T E) (P Q : Type 0) → (P → Q) → OnOk r P → OnOk r Q
 OnOk-map (Ok t) P Q f p = f p
@@ -59,7 +48,11 @@ pub IfErr-map2 : {T E : Type 0} (r : Result T E) (P : Type 0) (K Q : E → Type 
 IfErr-map2 (Ok t) P K Q f p k = k
 IfErr-map2 (Err e) P K Q f p k = f e p k
 
-mapped_length : {A B : Type 0} (f : A → B) (xs : List A) → length (map f xs) ≡ length xs
+pub OnOk-both : {T E : Type 0} (r : Result T E) (P Q S : Type 0) → (P → Q → S) → OnOk r P → OnOk r Q → OnOk r S
+OnOk-both (Ok t) P Q S f p q = f p q
+OnOk-both (Err e) P Q S f p q = p
+
+pub mapped_length : {A B : Type 0} (f : A → B) (xs : List A) → length (map f xs) ≡ length xs
 mapped_length f [] = refl
 mapped_length f (x ∷ xs) = ap suc (mapped_length f xs)
 
@@ -156,7 +149,7 @@ IsDeviceFault (faults.WriteFault count) = Unit {0}
 IsDeviceFault faults.NoMemory = Unit {0}
 IsDeviceFault _ = ⊥
 
-device_end : (script : Script) (inputs : Inputs) (f : TopFault) (took : List ℕ) → IsDeviceFault f → IsCutOff script inputs took → RunEnd script inputs (Some f) took
+pub device_end : (script : Script) (inputs : Inputs) (f : TopFault) (took : List ℕ) → IsDeviceFault f → IsCutOff script inputs took → RunEnd script inputs (Some f) took
 device_end script inputs (faults.ReadFault count) took is cut = cut
 device_end script inputs (faults.WriteFault count) took is cut = cut
 device_end script inputs faults.NoMemory took is cut = cut
@@ -165,8 +158,9 @@ device_end script inputs (faults.Script n cause) took is cut = absurd is
 device_end script inputs (faults.Missing name) took is cut = absurd is
 device_end script inputs (faults.LineTooLong name n) took is cut = absurd is
 device_end script inputs (faults.InputTooLong name) took is cut = absurd is
+device_end script inputs (faults.TooManyRows n) took is cut = absurd is
 
-stops_here : (script : Script) (holds : Option Holdings) (fixed : Bool) (items : List Item) (kept : List Kept) (taken : Option (List ℕ)) (f : TopFault) → IsDeviceFault f
+pub stops_here : (script : Script) (holds : Option Holdings) (fixed : Bool) (items : List Item) (kept : List Kept) (taken : Option (List ℕ)) (f : TopFault) → IsDeviceFault f
     → Stops script holds fixed items kept taken f taken
 stops_here script holds fixed items kept taken f is = λ inputs start done left tells work at. record {
   took = texts_among script at.lists done;
@@ -197,6 +191,7 @@ source_end : (script : Script) (inputs : Inputs) (start : List ℕ) (done left :
 source_end script inputs start done left n name input faults.Usage kept taken work at is kind block = absurd kind
 source_end script inputs start done left n name input (faults.Script k cause) kept taken work at is kind block = absurd kind
 source_end script inputs start done left n name input (faults.WriteFault count) kept taken work at is kind block = absurd kind
+source_end script inputs start done left n name input (faults.TooManyRows k) kept taken work at is kind block = absurd kind
 source_end script inputs start done left n name input (faults.ReadFault count) kept taken work at is kind block =
     cut_here script inputs start done (do_line n ∷ left) kept taken work at
 source_end script inputs start done left n name input faults.NoMemory kept taken work at is kind block =
@@ -309,7 +304,7 @@ some_form : (name defined : List ℕ) (x y : Form) → Some (line name x) ≡ So
 some_form name defined x y e = cc
 
 -- a line that is made of another
-pub local_goes_on : (script : Script) (holds : Option Holdings) (fixed : Bool) (n of : ℕ) (op : LocalOp) (name : List ℕ) (kept : List Kept) (taken : Option (List ℕ))
+local_goes_on : (script : Script) (holds : Option Holdings) (fixed : Bool) (n of : ℕ) (op : LocalOp) (name : List ℕ) (kept : List Kept) (taken : Option (List ℕ))
     → statement_at script n ≡ Some (line name (local_form of op)) → GoesOn script holds fixed (do_line n ∷ []) kept taken kept taken
 local_goes_on script holds fixed n of op name kept taken is = λ inputs start done left tells work at.
     let r = work.order.0 in
@@ -326,177 +321,44 @@ local_goes_on script holds fixed n of op name kept taken is = λ inputs start do
       since = at.since ∙ ap (λ (t : List ℕ). Some (start ++ t)) (sym g.1);
     }
 
-pub local_keeps : (script : Script) (n of : ℕ) (op : LocalOp) (name : List ℕ) (kept : List Kept)
-    → statement_at script n ≡ Some (line name (local_form of op)) → KeepsOn script (do_line n ∷ []) kept kept
-local_keeps script n of op name kept here = λ done left work are. record {
+-- the numbers below another
+numbers_go_on : (script : Script) (holds : Option Holdings) (fixed : Bool) (n count : ℕ) (name : List ℕ) (kept : List Kept) (taken : Option (List ℕ))
+    → statement_at script n ≡ Some (line name (generate_form count)) → GoesOn script holds fixed (do_line n ∷ []) kept taken kept taken
+numbers_go_on script holds fixed n count name kept taken is = λ inputs start done left tells work at.
+    let rows = map number_row (range_with_len 0 count) in
+    let none = at.run.listed n ∙ work.order.1 in
+    let g = line_goes_on script inputs at.lists done left n name (generate_form count) rows work at.run is refl refl in
+    record {
+      lists = with_list at.lists n rows;
+      run = g.0;
+      are = still_listed at.lists n rows none kept at.are;
+      since = at.since ∙ ap (λ (t : List ℕ). Some (start ++ t)) (sym g.1);
+    }
+
+-- a line that isn't those of an input
+pub other_goes_on : (script : Script) (holds : Option Holdings) (fixed : Bool) (n : ℕ) (name : List ℕ) (form : Form) (kept : List Kept) (taken : Option (List ℕ))
+    → IsNoInput form → statement_at script n ≡ Some (line name form) → GoesOn script holds fixed (do_line n ∷ []) kept taken kept taken
+other_goes_on script holds fixed n name (lines_form input) kept taken other is = absurd other
+other_goes_on script holds fixed n name (generate_form count) kept taken other is = numbers_go_on script holds fixed n count name kept taken is
+other_goes_on script holds fixed n name (local_form of op) kept taken other is = local_goes_on script holds fixed n of op name kept taken is
+
+no_input : (form : Form) (input : List ℕ) → IsNoInput form → form ≡ lines_form input → ⊥
+no_input form input other is = let Other : Form → Type 0 = IsNoInput in subst Other is other
+
+pub other_keeps : (script : Script) (n : ℕ) (name : List ℕ) (form : Form) (kept : List Kept)
+    → IsNoInput form → statement_at script n ≡ Some (line name form) → KeepsOn script (do_line n ∷ []) kept kept
+other_keeps script n name form kept other here = λ done left work are. record {
   there = λ l defined input has is.
       let Has : List ℕ → Type 0 = λ xs. has_number xs l ≡ true in
       elim (has_cases (lines_among done) (n ∷ []) l (subst Has (lines_push_line done n) has)) [
         | inl e ↦ are.there l defined input e is
         | inr e ↦
-            let At : ℕ → Type 0 = λ m. statement_at script m ≡ Some (line name (local_form of op)) in
-            let same : local_form of op ≡ lines_form input = some_form name defined (local_form of op) (lines_form input) (sym (subst At (is_one n l e) here) ∙ is) in
-            let wrong : ⊥ = cc in
-            absurd wrong
+            let At : ℕ → Type 0 = λ m. statement_at script m ≡ Some (line name form) in
+            let same : form ≡ lines_form input = some_form name defined form (lines_form input) (sym (subst At (is_one n l e) here) ∙ is) in
+            absurd (no_input form input other same)
       ];
   lines = are.lines;
 }
-
--- actions --------------------------------------------------------------------------------------------------------------
-
-pub action_keeps : (script : Script) (n : ℕ) (kept : List Kept) → KeepsOn script (do_action n ∷ []) kept kept
-action_keeps script n kept = λ done left work are. record {
-  there = λ l name input has is.
-      let Has : List ℕ → Type 0 = λ xs. has_number xs l ≡ true in
-      are.there l name input (subst Has (lines_push_action done n) has) is;
-  lines = are.lines;
-}
-
--- the code's action
-pub is_print : (action : actions.Action) → action_in action ≡ print_action (action_operand (action_in action))
-is_print (Print of) = refl
-
--- what an action finds: the chain of its line, and the rows that are kept for the chain's root
-pub record IsServed (script : Script) (chains : List Made) (kept : List Kept) (of : ℕ) : Type 0 where
-  pub found : IsFound script chains of
-  pub rows : List Row
-  pub are : kept_at kept found.made.root ≡ Some rows
-  pub lines : (bytes : List ℕ) × (rows ≡ line_rows bytes)
-
-some_action : (x y : Action) → Some (act x) ≡ Some (act y) → x ≡ y
-some_action x y e = cc
-
-operand_has : (script : Script) (done : List ℕ) (n of : ℕ) (action : Action) → IsReadyAction script done n → statement_at script n ≡ Some (act action)
-    → action_operand action ≡ of → has_number done of ≡ true
-operand_has script done n of action r is operand =
-    let same : r.action ≡ action = some_action r.action action (sym r.is ∙ is) in
-    let Has : ℕ → Type 0 = λ m. has_number done m ≡ true in
-    subst Has (ap action_operand same ∙ operand) r.operand
-
-pub served : (script : Script) (chains : List Made) (kept : List Kept) (n of : ℕ) (action : Action) → IsMidway script (do_action n ∷ []) kept → AreChains script chains
-    → statement_at script n ≡ Some (act action) → action_operand action ≡ of → IsServed script chains kept of
-served script chains kept n of action m are is operand =
-    let has = operand_has script (lines_among m.done) n of action m.work.order.0 is operand in
-    let r = ready_at script (lines_among m.done) m.done of m.work.ready has in
-    let f = chain_found script chains of r.name r.form are r.is in
-    let made = f.made in
-    let Has : ℕ → Type 0 = λ k. has_number (lines_among m.done) k ≡ true in
-    let root = roots_are_done script m.done (do_action n ∷ m.left) made.root (ops_of (maps_in made.maps.items)) made.number m.work f.is.0.chain (subst Has (sym f.number) has) in
-    let rows = there (kept_at kept made.root) (m.are.there made.root f.is.0.name f.is.0.input root f.is.0.root) in
-    record { found = f; rows = rows.0; are = rows.1; lines = kept_lines kept made.root rows.0 m.are.lines rows.1 }
-  where
-    there : (o : Option (List Row)) → IsSome o → (rows : List Row) × (o ≡ Some rows)
-    there None some = absurd (true≢false (sym some))
-    there (Some rows) some = (rows, refl)
-
--- with the chain and the rows that were found
-pub served_with : (script : Script) (chains : List Made) (kept : List Kept) (of : ℕ) (made : Made) (rows : List Row) → IsServed script chains kept of
-    → find (with_number of) chains ≡ Some made → kept_at kept made.root ≡ Some rows
-    → (s : IsServed script chains kept of) × (s.found.made ≡ made) × (s.rows ≡ rows)
-served_with script chains kept of made rows s found are =
-    let same = found_same (find (with_number of) chains) s.found.made made s.found.found found in
-    let Root : Made → Type 0 = λ m. kept_at kept m.root ≡ Some s.rows in
-    (s, same, rows_same (kept_at kept made.root) s.rows rows (subst Root same s.are) are)
-
-through_maps : (maps : List (List Expr)) (row : Row) → rows_through (ops_of maps) row ≡ mapped maps row ∷ []
-through_maps [] row = refl
-through_maps (exprs ∷ maps) row = append-nil (rows_through (ops_of maps) (values_of exprs row)) ∙ through_maps maps (values_of exprs row)
-
-all_through : (maps : List (List Expr)) (rows : List Row) → flat_map (rows_through (ops_of maps)) rows ≡ map (mapped maps) rows
-all_through maps [] = refl
-all_through maps (row ∷ rows) =
-    ap (λ (rs : List Row). rs ++ flat_map (rows_through (ops_of maps)) rows) (through_maps maps row)
-    ∙ ap (λ (rs : List Row). mapped maps row ∷ rs) (all_through maps rows)
-
-texts_mapped : (maps : List (List Expr)) (rows : List Row) → flat_map row_text (map (mapped maps) rows) ≡ texts_of maps rows
-texts_mapped maps [] = refl
-texts_mapped maps (row ∷ rows) = ap (λ (t : List ℕ). row_text (mapped maps row) ++ t) (texts_mapped maps rows)
-
--- the rows that an action prints
-record IsPrinted (lists : Lists) (of : ℕ) (maps : List (List Expr)) (rows : List Row) : Type 0 where
-  free : block_of_action lists (print_action of) ≡ None
-  text : action_text lists (print_action of) ≡ texts_of maps rows
-
-printed : (script : Script) (inputs : Inputs) (lists : Lists) (done left : List Item) (chains : List Made) (kept : List Kept) (of : ℕ)
-    → InWork script done left → IsRunOf script inputs lists done → AllByRecursion (IsListed lists) kept → has_number (lines_among done) of ≡ true
-    → (s : IsServed script chains kept of) → IsPrinted lists of (maps_in s.found.made.maps.items) s.rows
-printed script inputs lists done left chains kept of work run all has s =
-    let made = s.found.made in
-    let maps = maps_in made.maps.items in
-    let Has : ℕ → Type 0 = λ k. has_number (lines_among done) k ≡ true in
-    let c = chains_make script inputs lists done left made.root (ops_of maps) made.number work run s.found.is.0.chain (subst Has (sym s.found.number) has) in
-    let l = kept_listed lists kept made.root s.rows all s.are in
-    let same : c.0 ≡ s.rows = some_rows c.0 s.rows (sym c.1 ∙ l.0) in
-    let At : ℕ → Type 0 = λ k. lists k ≡ Some (map (mapped maps) s.rows) in
-    let here : lists of ≡ Some (map (mapped maps) s.rows) =
-    subst At s.found.number (c.2 ∙ ap (λ (rs : List Row). Some (flat_map (rows_through (ops_of maps)) rs)) same ∙ ap Some (all_through maps s.rows)) in
-    let rows : rows_in (lists of) ≡ map (mapped maps) s.rows = ap rows_in here in
-    let few : length (rows_in (lists of)) ≤ longest_input = (let long = ap length rows ∙ mapped_length (mapped maps) s.rows in let short = l.1 in omega (arith, long, short)) in
-    record {
-      free = rw (not_many (length (rows_in (lists of))) few) refl;
-      text = ap (flat_map row_text) rows ∙ texts_mapped maps s.rows;
-    }
-  where
-    not_many : (n : ℕ) → n ≤ longest_input → ltb most_rows n ≡ false
-    not_many n few = elim (ltb most_rows n) as (λ t. ltb most_rows n ≡ t → t ≡ false) [
-      | true ↦ λ e. (let many = ltb-true most_rows n e in absurd (omega (arith, few, many)))
-      | false ↦ λ e. refl
-    ] refl
-
-took_since : (taken now : Option (List ℕ)) (start texts text : List ℕ) → taken ≡ Some (start ++ texts) → TookAll taken text now → now ≡ Some (start ++ (texts ++ text))
-took_since taken now start texts text is took =
-    let Took : Option (List ℕ) → Type 0 = λ o. TookAll o text now in
-    subst Took is took ∙ ap Some (append_assoc start texts text)
-
-pub print_goes_on : (script : Script) (n of : ℕ) (chains : List Made) (kept : List Kept) (taken now : Option (List ℕ))
-    → statement_at script n ≡ Some (act (print_action of)) → (s : IsServed script chains kept of) → TookAll taken (texts_of (maps_in s.found.made.maps.items) s.rows) now
-    → (holds : Option Holdings) (fixed : Bool) → GoesOn script holds fixed (do_action n ∷ []) kept taken kept now
-print_goes_on script n of chains kept taken now is s took = λ holds fixed inputs start done left tells work at.
-    let has = operand_has script (lines_among done) n of (print_action of) work.order.0 is refl in
-    let p = printed script inputs at.lists done (do_action n ∷ left) chains kept of work at.run at.are has s in
-    let g = action_goes_on script inputs at.lists done left n (print_action of) work at.run is p.free in
-    let Took : List ℕ → Type 0 = λ t. TookAll taken t now in
-    record {
-      lists = at.lists;
-      run = g.0;
-      are = at.are;
-      since = took_since taken now start (texts_among script at.lists done) (action_text at.lists (print_action of)) at.since (subst Took (sym p.text) took)
-          ∙ ap (λ (t : List ℕ). Some (start ++ t)) (sym g.1);
-    }
-
-print_device : (f : TopFault) → IsPrintFault f → IsDeviceFault f
-print_device (faults.WriteFault count) is = tt
-print_device faults.NoMemory is = tt
-print_device faults.Usage is = absurd is
-print_device (faults.Script n cause) is = absurd is
-print_device (faults.Missing name) is = absurd is
-print_device (faults.LineTooLong name n) is = absurd is
-print_device (faults.InputTooLong name) is = absurd is
-print_device (faults.ReadFault count) is = absurd is
-
-pub print_stops : (script : Script) (n of : ℕ) (chains : List Made) (kept : List Kept) (taken now : Option (List ℕ)) (f : TopFault)
-    → statement_at script n ≡ Some (act (print_action of)) → (s : IsServed script chains kept of) → TookFront taken (texts_of (maps_in s.found.made.maps.items) s.rows) now
-    → IsPrintFault f → (holds : Option Holdings) (fixed : Bool) → Stops script holds fixed (do_action n ∷ []) kept taken f now
-print_stops script n of chains kept taken now f is s took kind = λ holds fixed inputs start done left tells work at.
-    let has = operand_has script (lines_among done) n of (print_action of) work.order.0 is refl in
-    let p = printed script inputs at.lists done (do_action n ∷ left) chains kept of work at.run at.are has s in
-    let g = action_goes_on script inputs at.lists done left n (print_action of) work at.run is p.free in
-    let w = goes_on script done left (do_action n) work in
-    let r = runs_are_runs script inputs at.lists (done ++ do_action n ∷ []) left w g.0 in
-    let texts = texts_among script at.lists done in
-    let Took : Option (List ℕ) → Type 0 = λ o. TookFront o (texts_of (maps_in s.found.made.maps.items) s.rows) now in
-    let front = subst Took at.since took in
-    record {
-      took = texts ++ front.0;
-      since = front.3 ∙ ap Some (append_assoc start texts front.0);
-      end = device_end script inputs f (texts ++ front.0) (print_device f kind) (record {
-        count = length (done ++ do_action n ∷ []);
-        all = texts ++ action_text at.lists (print_action of);
-        done = record { lists = at.lists; run = r.0; texts = sym (r.1 ∙ g.1) };
-        rest = front.1;
-        parts = ap (λ (t : List ℕ). texts ++ t) (p.text ∙ front.2) ∙ sym (append_assoc texts front.0 front.1);
-      });
-    }
 
 -- the whole work --------------------------------------------------------------------------------------------------------
 

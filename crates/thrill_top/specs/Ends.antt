@@ -1,13 +1,14 @@
 -- What the end of a call says of the shelf, and of what standard output took.
-use Rattle.std.specs.Prelude.{◌≡◌, ◌⊎◌, ℕ, List, Option, None, Some, Result, Ok, Err}
+use Rattle.std.specs.Prelude.{◌≡◌, ◌⊎◌, ◌<◌, ◌≤◌, ℕ, List, length, Option, None, Some, Result, Err}
 use Rattle.dia_defs.specs.declared.cause.Cause.{Cause}
+use Rattle.dia_defs.specs.Rows.{Row}
 use Rattle.dia_defs.specs.Scripts as scripts
-use Rattle.dia_defs.specs.Lists.{Inputs, missing, line_too_long, input_too_long, block_of_input}
+use Rattle.dia_defs.specs.Lists.{Inputs, missing, line_too_long, input_too_long, block_of_input, longest_input, most_rows}
 use Rattle.dia_edge.specs.Counts.{HasRisen}
 use Rattle.dia_edge.specs.Sinks.{TookAll, TookFront}
 use Rattle.thrill_top.specs.Faults.{fault_line}
 use Rattle.thrill_top.specs.declared.fault.TopFault.{TopFault}
-use Rattle.thrill_top.specs.declared.fault.TopFault.TheVariants.{Usage, Script, Missing, LineTooLong, InputTooLong, ReadFault, WriteFault, NoMemory}
+use Rattle.thrill_top.specs.declared.fault.TopFault.TheVariants.{Usage, Script, Missing, LineTooLong, InputTooLong, TooManyRows, ReadFault, WriteFault, NoMemory}
 
 -- a fault of the shelf comes only where its count rose, and tells the count
 abbrev pub IsShelfFault : TopFault → ℕ → ℕ → Type 0
@@ -35,6 +36,7 @@ IsAbsentScript _ inputs name = Unit {0}
 abbrev pub IsSourceFault : TopFault → Type 0
 IsSourceFault Usage = ⊥
 IsSourceFault (Script line cause) = ⊥
+IsSourceFault (TooManyRows line) = ⊥
 IsSourceFault (WriteFault count) = ⊥
 IsSourceFault _ = Unit {0}
 
@@ -76,10 +78,36 @@ abbrev pub IsScriptReason : TopFault → Result scripts.Script (ℕ × Cause) �
 IsScriptReason (Script line cause) reading = reading ≡ Err (line, cause)
 IsScriptReason _ reading = Unit {0}
 
-abbrev pub IsPrintFault : TopFault → Type 0
-IsPrintFault (WriteFault count) = Unit {0}
-IsPrintFault NoMemory = Unit {0}
-IsPrintFault _ = ⊥
+abbrev pub IsActionFault : TopFault → Type 0
+IsActionFault (TooManyRows line) = Unit {0}
+IsActionFault (WriteFault count) = Unit {0}
+IsActionFault NoMemory = Unit {0}
+IsActionFault _ = ⊥
+
+-- why an action wasn't done whose text on these rows is this: there are too many, and nothing was taken; or a front of
+-- the text was, of rows that aren't too many where those of the source may be; or there was no memory
+abbrev pub IsActFault : ℕ → ℕ → List Row → List ℕ → TopFault → Option (List ℕ) → Option (List ℕ) → Type 0
+IsActFault line source rows text (TooManyRows n) taken now = (n ≡ line) × (most_rows < length rows) × (now ≡ taken)
+IsActFault line source rows text (WriteFault count) taken now = (source ≤ longest_input → length rows ≤ most_rows) × TookFront taken text now
+IsActFault line source rows text NoMemory taken now = now ≡ taken
+IsActFault line source rows text _ taken now = ⊥
+
+-- a write failed, and the count is told
+abbrev pub IsWriteFault : TopFault → ℕ → ℕ → Type 0
+IsWriteFault (WriteFault count) before now = HasRisen before now × (count ≡ now)
+IsWriteFault _ before now = ⊥
+
+-- a front of the text was taken, or nothing for want of memory
+abbrev pub IsPrintFault : List ℕ → TopFault → Option (List ℕ) → Option (List ℕ) → Type 0
+IsPrintFault text (WriteFault count) taken now = TookFront taken text now
+IsPrintFault text NoMemory taken now = now ≡ taken
+IsPrintFault text _ taken now = ⊥
+
+-- so many rows are too many, and nothing was taken; or they aren't, and a front of the text was
+abbrev pub IsNumberFault : ℕ → ℕ → List ℕ → TopFault → Option (List ℕ) → Option (List ℕ) → Type 0
+IsNumberFault line rows text (TooManyRows n) taken now = (n ≡ line) × (most_rows < rows) × (now ≡ taken)
+IsNumberFault line rows text (WriteFault count) taken now = (rows ≤ most_rows) × TookFront taken text now
+IsNumberFault line rows text _ taken now = ⊥
 
 -- what standard error took for a fault: its line, or a front of that where the count rose
 abbrev pub Told : TopFault → Option (List ℕ) → Option (List ℕ) → ℕ → ℕ → Type 0

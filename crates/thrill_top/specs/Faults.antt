@@ -3,7 +3,7 @@ use Rattle.std.specs.Prelude.{ℕ, List, ◌++◌, decimal, codes}
 use Rattle.dia_defs.specs.declared.cause.Cause.{Cause}
 use Rattle.dia_defs.specs.declared.cause.Cause.TheVariants as causes
 use Rattle.thrill_top.specs.declared.fault.TopFault.{TopFault}
-use Rattle.thrill_top.specs.declared.fault.TopFault.TheVariants.{Usage, Script, Missing, LineTooLong, InputTooLong, ReadFault, WriteFault, NoMemory}
+use Rattle.thrill_top.specs.declared.fault.TopFault.TheVariants.{Usage, Script, Missing, LineTooLong, InputTooLong, TooManyRows, ReadFault, WriteFault, NoMemory}
 
 abbrev pub fault_status : TopFault → ℕ
 fault_status Usage = 2
@@ -11,6 +11,7 @@ fault_status (Script line cause) = 3
 fault_status (Missing name) = 4
 fault_status (LineTooLong name line) = 5
 fault_status (InputTooLong name) = 5
+fault_status (TooManyRows line) = 7
 fault_status (ReadFault count) = 8
 fault_status (WriteFault count) = 9
 fault_status NoMemory = 12
@@ -36,6 +37,7 @@ fault_line (Script line cause) = codes "thrill: script line " ++ (decimal line +
 fault_line (Missing name) = codes "thrill: missing " ++ (name ++ codes "\n")
 fault_line (LineTooLong name line) = codes "thrill: " ++ (name ++ (codes " line " ++ (decimal line ++ codes " too long\n")))
 fault_line (InputTooLong name) = codes "thrill: " ++ (name ++ codes " too long\n")
+fault_line (TooManyRows line) = codes "thrill: script line " ++ (decimal line ++ codes ": too many rows\n")
 fault_line (ReadFault count) = codes "thrill: read failed\n"
 fault_line (WriteFault count) = codes "thrill: write failed\n"
 fault_line NoMemory = codes "thrill: no memory\n"

@@ -2,6 +2,5 @@ pub mod Promise
 pub mod Faults
 pub mod Words
 pub mod Ends
-pub mod Chains
 pub mod Making
 pub mod Steps

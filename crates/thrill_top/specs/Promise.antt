@@ -3,8 +3,8 @@ use Rattle.std.specs.Prelude.{◌≡◌, ◌⊎◌, ℕ, Bool, true, List, [], �
 use Rattle.dia_defs.specs.declared.cause.Cause.{Cause}
 use Rattle.dia_defs.specs.Scripts.{lines_form, line, Script, statement_at}
 use Rattle.dia_defs.specs.Reading.{ReadsAs, IsRefused}
-use Rattle.dia_defs.specs.Lists.{Inputs, Lists, Block, missing, line_too_long, input_too_long}
-use Rattle.dia_defs.specs.Work.{Item, do_line, work_of}
+use Rattle.dia_defs.specs.Lists.{Inputs, Lists, Block, missing, line_too_long, input_too_long, too_many_rows}
+use Rattle.dia_defs.specs.Work.{Item, do_line, do_action, work_of}
 use Rattle.dia_defs.specs.Runs.{IsRun, block_of, run_texts}
 use Rattle.dia_edge.specs.Shelves.{Holdings}
 use Rattle.thrill_top.specs.declared.fault.TopFault.{TopFault}
@@ -32,6 +32,14 @@ pub record IsStopped (script : Script) (inputs : Inputs) (name : List ℕ) (caus
   pub is : statement_at script next ≡ Some (line defined (lines_form name))
   pub blocked : block_of script inputs done.lists (do_line next) ≡ Some cause
 
+-- the same, and the next item is the action on this line, at which more rows arrive than may
+pub record IsTooMany (script : Script) (inputs : Inputs) (n : ℕ) (took : List ℕ) : Type 0 where
+  pub count : ℕ
+  pub done : IsDone script inputs count took
+  pub left : List Item
+  pub work : drop count (work_of script) ≡ do_action n ∷ left
+  pub blocked : block_of script inputs done.lists (do_action n) ≡ Some too_many_rows
+
 -- these bytes are a front of the texts of some first items
 pub record IsCutOff (script : Script) (inputs : Inputs) (took : List ℕ) : Type 0 where
   pub count : ℕ
@@ -48,6 +56,7 @@ RunEnd script inputs (Some (faults.Script n cause)) took = ⊥
 RunEnd script inputs (Some (faults.Missing name)) took = IsStopped script inputs name missing took
 RunEnd script inputs (Some (faults.LineTooLong name n)) took = IsStopped script inputs name (line_too_long n) took
 RunEnd script inputs (Some (faults.InputTooLong name)) took = IsStopped script inputs name input_too_long took
+RunEnd script inputs (Some (faults.TooManyRows n)) took = IsTooMany script inputs n took
 RunEnd script inputs (Some (faults.ReadFault count)) took = IsCutOff script inputs took
 RunEnd script inputs (Some (faults.WriteFault count)) took = IsCutOff script inputs took
 RunEnd script inputs (Some faults.NoMemory) took = IsCutOff script inputs took
@@ -119,3 +128,11 @@ IsAbsentWith name fault = fault ≡ Some (faults.Missing name)
 -- a fault of a device, or want of memory
 abbrev pub IsExcused : ℕ → Type 0
 IsExcused status = (status ≡ 8) ⊎ ((status ≡ 9) ⊎ (status ≡ 12))
+
+-- no action is one at which more rows arrive than may, whatever run leads to it
+abbrev pub HasNoTooMany : Script → Inputs → Type 0
+HasNoTooMany script inputs = (n : ℕ) (took : List ℕ) → IsTooMany script inputs n took → ⊥
+
+-- 0, or 12 for want of memory, or 7 where some action is one at which more rows arrive than may
+abbrev pub IsWhole : Script → Inputs → ℕ → Type 0
+IsWhole script inputs status = ((status ≡ 0) ⊎ ((status ≡ 7) ⊎ (status ≡ 12))) × (HasNoTooMany script inputs → (status ≡ 0) ⊎ (status ≡ 12))

@@ -1,10 +1,13 @@
 -- Where a run stands, and how each item goes on from there.
-use Rattle.std.specs.Prelude.{◌≡◌, ◌≤◌, ℕ, ◌==◌, Bool, true, List, [], ◌∷◌, ◌++◌, length, Option, None, Some, IsSome, find}
+use Rattle.std.specs.Prelude.{◌≡◌, ◌≤◌, ℕ, ◌==◌, Bool, true, List, ◌++◌, length, Option, Some, IsSome, find}
 use Rattle.std.specs.Option.{option_map}
-use Rattle.std.specs.List.{AllByRecursion}
+use Rattle.std.specs.List.{AllByRecursion, flat_map}
 use Rattle.dia_defs.specs.Rows.{Row}
 use Rattle.dia_defs.specs.Pieces.{line_rows}
-use Rattle.dia_defs.specs.Scripts.{lines_form, line, Script, statement_at}
+use Rattle.dia_defs.specs.Scripts.{Form, lines_form, generate_form, local_form, Action, print_action, size_action, sum_action, line, Script, statement_at}
+use Rattle.dia_defs.specs.Runs.{row_text, number_line, column_sum}
+use Rattle.row_feed.specs.declared.source.Source.{Source}
+use Rattle.row_feed.specs.declared.source.Source.TheVariants.{Lines, Numbers}
 use Rattle.dia_defs.specs.Lists.{Inputs, Lists, longest_input}
 use Rattle.dia_defs.specs.Work.{Item, has_number}
 use Rattle.dia_edge.specs.Shelves.{Holdings}
@@ -60,3 +63,26 @@ Stops script holds fixed items kept taken fault taken_now =
 abbrev pub KeepsOn : Script → List Item → List Kept → List Kept → Type 0
 KeepsOn script items kept kept_now =
     (done left : List Item) → InWork script done (items ++ left) → AreKept script done kept → AreKept script (done ++ items) kept_now
+
+-- a line that isn't those of an input
+abbrev pub IsNoInput : Form → Type 0
+IsNoInput (lines_form input) = ⊥
+IsNoInput _ = Unit {0}
+
+-- a line that names none: its rows are kept, or it needs none that are
+abbrev pub HasRoot : Form → List Kept → ℕ → Type 0
+HasRoot (lines_form input) kept root = IsSome (kept_at kept root)
+HasRoot (generate_form count) kept root = Unit {0}
+HasRoot (local_form of op) kept root = ⊥
+
+-- the source is such a line's
+abbrev pub IsSourceOf : Form → List Kept → ℕ → Source → Type 0
+IsSourceOf (lines_form input) kept root (Lines rows) = kept_at kept root ≡ Some rows.now
+IsSourceOf (generate_form count) kept root (Numbers n) = n ≡ count
+IsSourceOf _ kept root source = ⊥
+
+-- what an action prints of rows
+abbrev pub text_of_rows : Action → List Row → List ℕ
+text_of_rows (print_action of) rows = flat_map row_text rows
+text_of_rows (size_action of) rows = number_line (length rows)
+text_of_rows (sum_action of c) rows = number_line (column_sum c rows)

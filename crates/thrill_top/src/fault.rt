@@ -37,6 +37,11 @@ pub enum TopFault {
         /// The input's name.
         name: Name,
     },
+    /// More than 2^40 rows arrive at an action; status 7.
+    TooManyRows {
+        /// The action's line in the script.
+        line: u32,
+    },
     /// The shelf failed; status 8.
     ReadFault {
         /// Its count of faults.
@@ -72,6 +77,7 @@ impl TopFault {
             TopFault::Script { .. } => 3,
             TopFault::Missing { .. } => 4,
             TopFault::LineTooLong { .. } | TopFault::InputTooLong { .. } => 5,
+            TopFault::TooManyRows { .. } => 7,
             TopFault::ReadFault { .. } => 8,
             TopFault::WriteFault { .. } => 9,
             TopFault::NoMemory => 12,
@@ -99,7 +105,7 @@ fn cause_name(cause: Cause) -> &'static [u8]
 }
 
 /// Puts pieces one after the other.
-fn put_pieces<E: Sink>(err: &mut E, pieces: &[&[u8]]) -> Result<(), Failed>
+pub(crate) fn put_pieces<E: Sink>(err: &mut E, pieces: &[&[u8]]) -> Result<(), Failed>
     ensures ok { OnOk result (TookAll (E.taken err.old) (flat_map (λ p. p.now) pieces.now) (E.taken err.new)) }
     ensures failed { OnErr result (TookFront (E.taken err.old) (flat_map (λ p. p.now) pieces.now) (E.taken err.new)) }
     ensures rose { OnErr result (HasRisen (E.faults err.old) (E.faults err.new)) }
@@ -160,6 +166,14 @@ pub fn put_fault<E: Sink>(fault: &TopFault, err: &mut E) -> Result<(), Failed>
         }
         TopFault::InputTooLong { name } => {
             put_pieces(err, &[b"thrill: ", name.text().as_bytes(), b" too long\n"])
+        }
+        TopFault::TooManyRows { line } => {
+            let mut digits = itoa::Buffer::new();
+            let number = digits.format(*line).as_bytes();
+            put_pieces(
+                err,
+                &[b"thrill: script line ", number, b": too many rows\n"],
+            )
         }
         TopFault::ReadFault { .. } => put_pieces(err, &[b"thrill: read failed\n"]),
         TopFault::WriteFault { .. } => put_pieces(err, &[b"thrill: write failed\n"]),

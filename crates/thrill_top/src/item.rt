@@ -1,24 +1,27 @@
 //! Does one item of the work.
-ghost use Rattle.std.specs.Prelude.{◌≡◌, ◌≤◌, ◌∷◌, ◌++◌, [], ℕ, Bool, true, List, Option, OnOk, IfOk, IfErr, IfSome};
+ghost use Rattle.std.specs.Prelude.{◌≡◌, ◌≤◌, ◌∷◌, ◌++◌, [], ℕ, Bool, true, List, Option, OnOk, IfOk, IfErr, IfSome, MatchOption};
+ghost use Rattle.dia_defs.specs.Scripts.{lines_form};
+ghost use Rattle.script_read.specs.Statements.{form_in};
 ghost use Rattle.dia_defs.specs.Pieces.{line_rows};
 ghost use Rattle.dia_defs.specs.Work.{do_line, do_action};
 ghost use Rattle.dia_edge.specs.Shelves.{Holdings};
 ghost use Rattle.dia_lines.specs.Inputs.{IsInput};
-ghost use Rattle.thrill_top.specs.Ends.{IsShelfFault, IsOutFault, IsSourceFault, IsSourceBlock, IsPrintFault, IsRunFault, IsWorkFault};
+ghost use Rattle.thrill_top.specs.Ends.{IsShelfFault, IsOutFault, IsSourceFault, IsSourceBlock, IsActionFault, IsRunFault, IsWorkFault};
 ghost use Rattle.thrill_top.specs.declared.fault.TopFault.TheVariants as faults;
 ghost use Rattle.thrill_top.specs.Making.{AreChains};
-ghost use Rattle.thrill_top.specs.Steps.{IsMidway, GoesOn, KeepsOn, Stops};
+ghost use Rattle.thrill_top.specs.Steps.{IsNoInput, IsMidway, GoesOn, KeepsOn, Stops};
 ghost use Rattle.dia_lines.specs.Inputs.{IsReadFault, IsInputReason};
 ghost use Rattle.work_order.specs.Items.{item_in};
 
+use crate::action::act;
 use crate::fault::TopFault;
-use crate::kept::{Kept, find_kept};
+use crate::kept::{Kept, source_of};
 use crate::making::{Made, find_made};
-use crate::print::print_rows;
 use dia_edge::{Name, NoMemory, Shelf, Sink};
 use dia_lines::{InputErr, LineRows, read_input};
 use script_read::{Form, Script, Statement};
 use std::alloc::Global;
+use std::sync::Wait;
 use work_order::{Item, find_statement, operand};
 
 /// The fault for an input that wasn't read.
@@ -72,6 +75,16 @@ fn keep(kept: &mut Vec<Kept>, number: u32, rows: LineRows) -> Result<(), TopFaul
     }
 }
 
+/// The input whose lines a line is.
+fn input_of(form: &Form) -> Option<&Name>
+    ensures { MatchOption result (IsNoInput (form_in form.now)) (λ input. form_in form.now ≡ lines_form input.now) }
+{
+    match form {
+        Form::Lines { input } => Some(input),
+        _ => None,
+    }
+}
+
 /// A line gets its rows: those of an input are read, and the others are made when they are printed.
 fn do_line<N: Shelf>(
     alloc: Global,
@@ -90,19 +103,20 @@ fn do_line<N: Shelf>(
     ensures fixed { N.is_fixed shelf.old ≡ true → (N.is_fixed shelf.new ≡ true) × (N.holds shelf.new ≡ N.holds shelf.old) }
 {
     match find_statement(script.statements(), number) {
-        Some(Statement::Line { name: _, form }) => match form {
-            Form::Lines { input } => match read_source(alloc, shelf, input) {
+        Some(Statement::Line { name: _, form }) => match input_of(form) {
+            Some(input) => match read_source(alloc, shelf, input) {
                 Ok(rows) => keep(kept, number, rows),
                 Err(f) => Err(f),
             },
-            Form::Map { .. } => Ok(()),
+            None => Ok(()),
         },
         _ => unreachable!(),
     }
 }
 
 /// Does an action on the rows that are kept.
-fn do_action<S: Sink>(
+fn do_action<R: Wait, S: Sink>(
+    rt: &R,
     alloc: Global,
     script: &Script,
     chains: &[Made<'_>],
@@ -115,15 +129,15 @@ fn do_action<S: Sink>(
     ensures ok { OnOk result ((holds : Option Holdings) (fixed : Bool) → GoesOn script.now holds fixed (do_action number ∷ []) kept.now (S.taken out.old) kept.now (S.taken out.new)) }
     ensures refused { IfErr result (λ f. (holds : Option Holdings) (fixed : Bool) → Stops script.now holds fixed (do_action number ∷ []) kept.now (S.taken out.old) f (S.taken out.new)) }
     ensures fault { IfErr result (λ f. IsOutFault f (S.faults out.old) (S.faults out.new)) }
-    ensures kind { IfErr result IsPrintFault }
+    ensures kind { IfErr result IsActionFault }
     ensures counts { S.faults out.old ≤ S.faults out.new }
 {
     match find_statement(script.statements(), number) {
         Some(Statement::Act(action)) => match find_made(chains, operand(action)) {
-            Some(made) => match find_kept(kept, made.root) {
-                Some(rows) => print_rows(alloc, rows, made.maps.as_slice(), out),
-                None => unreachable!(),
-            },
+            Some(made) => {
+                let source = source_of(script, kept, made.root);
+                act(rt, alloc, number, action, &source, made.ops.as_slice(), out)
+            }
             None => unreachable!(),
         },
         _ => unreachable!(),
@@ -131,7 +145,8 @@ fn do_action<S: Sink>(
 }
 
 /// Does one item of the work.
-pub(crate) fn do_item<N: Shelf, S: Sink>(
+pub(crate) fn do_item<R: Wait, N: Shelf, S: Sink>(
+    rt: &R,
     alloc: Global,
     script: &Script,
     chains: &[Made<'_>],
@@ -153,6 +168,8 @@ pub(crate) fn do_item<N: Shelf, S: Sink>(
 {
     match item {
         Item::Line(number) => do_line(alloc, script, number, kept, shelf),
-        Item::Action(number) => { do_action(alloc, script, chains, number, kept.as_slice(), out) }
+        Item::Action(number) => {
+            do_action(rt, alloc, script, chains, number, kept.as_slice(), out)
+        }
     }
 }

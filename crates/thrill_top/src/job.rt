@@ -20,10 +20,12 @@ use crate::read::read_bytes;
 use dia_edge::{Name, NoMemory, Shelf, Sink};
 use script_read::{ReadErr, Script, read_script};
 use std::alloc::Global;
+use std::sync::Wait;
 use work_order::{Item, work_of};
 
 /// Does items of the work, one after the other.
-fn do_items<N: Shelf, S: Sink>(
+fn do_items<R: Wait, N: Shelf, S: Sink>(
+    rt: &R,
     alloc: Global,
     script: &Script,
     chains: &[Made<'_>],
@@ -41,15 +43,16 @@ fn do_items<N: Shelf, S: Sink>(
 {
     match items.split_first() {
         None => Ok(()),
-        Some((item, rest)) => match do_item(alloc, script, chains, *item, kept, shelf, out) {
-            Ok(()) => do_items(alloc, script, chains, rest, kept, shelf, out),
+        Some((item, rest)) => match do_item(rt, alloc, script, chains, *item, kept, shelf, out) {
+            Ok(()) => do_items(rt, alloc, script, chains, rest, kept, shelf, out),
             Err(f) => Err(f),
         },
     }
 }
 
 /// Does the work of an accepted script.
-fn run_accepted<N: Shelf, S: Sink>(
+fn run_accepted<R: Wait, N: Shelf, S: Sink>(
+    rt: &R,
     alloc: Global,
     script: &Script,
     shelf: &mut N,
@@ -71,6 +74,7 @@ fn run_accepted<N: Shelf, S: Sink>(
     };
     let mut kept = Vec::new(alloc);
     do_items(
+        rt,
         alloc,
         script,
         chains.as_slice(),
@@ -92,7 +96,8 @@ fn script_fault(e: ReadErr) -> TopFault
 }
 
 /// Runs the script with this name.
-pub(crate) fn run_script<N: Shelf, S: Sink>(
+pub(crate) fn run_script<R: Wait, N: Shelf, S: Sink>(
+    rt: &R,
     alloc: Global,
     name: &Name,
     shelf: &mut N,
@@ -111,7 +116,7 @@ pub(crate) fn run_script<N: Shelf, S: Sink>(
         Ok(script) => script,
         Err(e) => return Err(script_fault(e)),
     };
-    match run_accepted(alloc, &script, shelf, out) {
+    match run_accepted(rt, alloc, &script, shelf, out) {
         Ok(()) => Ok(()),
         Err(f) => Err(f),
     }

@@ -4,13 +4,12 @@
 //! contract stand in `specs/`: Words, Faults, Ends; those below it in Chains and Making.
 #![tactic(auto)]
 
-mod chain;
+mod action;
 mod fault;
 mod item;
 mod job;
 mod kept;
 mod making;
-mod print;
 mod read;
 mod top;
 mod words;

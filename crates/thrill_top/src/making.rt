@@ -9,16 +9,16 @@ ghost use Rattle.script_read.specs.Statements.{form_in, numbered_in};
 ghost use Rattle.thrill_top.specs.Making.{IsFormMade, AreMade, IsAdded, IsAmong, AreChains, with_number};
 
 use dia_edge::NoMemory;
-use dia_expr::Expr;
 use script_read::{Form, Numbered, Script, Statement};
 use std::alloc::Global;
+use work_order::form_operand;
 
-/// How a line is made: from the lines of an input, which are the line `root`, through maps.
+/// How a line is made: from the line `root`, which names none, through local lines.
 #[derive(Drop)]
 pub(crate) struct Made<'s> {
     pub number: u32,
     pub root: u32,
-    pub maps: Vec<&'s [Expr]>,
+    pub ops: Vec<&'s Form>,
 }
 
 /// The line with this number.
@@ -48,24 +48,24 @@ fn make<'s>(
     ensures { IfOk result (λ m. (script : defs.Script) (known : Known) (name : List ℕ) → IsSoundForm known (form_in form.now) → AreMade script known.lines table.now
         → statement_at script number ≡ Some (line name (form_in form.now)) → IsFormMade script number (form_kinds known (form_in form.now)) m) }
 {
-    match form {
-        Form::Lines { .. } => Ok(Made {
+    let Some(of) = form_operand(form) else {
+        return Ok(Made {
             number,
             root: number,
-            maps: Vec::new(alloc),
-        }),
-        Form::Map { of, exprs } => match find_made(table, *of) {
-            None => unreachable!(),
-            Some(under) => {
-                let mut maps = Vec::from_slice(alloc, under.maps.as_slice())?;
-                maps.push(exprs.as_slice())?;
-                Ok(Made {
-                    number,
-                    root: under.root,
-                    maps,
-                })
-            }
-        },
+            ops: Vec::new(alloc),
+        });
+    };
+    match find_made(table, of) {
+        None => unreachable!(),
+        Some(under) => {
+            let mut ops = Vec::from_slice(alloc, under.ops.as_slice())?;
+            ops.push(form)?;
+            Ok(Made {
+                number,
+                root: under.root,
+                ops,
+            })
+        }
     }
 }
 
@@ -77,7 +77,7 @@ fn add_chains<'s>(
 ) -> Result<(), NoMemory>
     requires { (script : defs.Script) × (known : Known) × (n : ℕ) × IsAmong script known n (map numbered_in statements.now) table.old.items }
     ensures { OnOk result ((script : defs.Script) (known : Known) (n : ℕ) → IsAmong script known n (map numbered_in statements.now) table.old.items
-        → IsAdded script table.old.items (map numbered_in statements.now) table.new.items) }
+        → IsAdded script known.lines (map numbered_in statements.now) table.new.items) }
 {
     match statements.split_first() {
         None => Ok(()),

@@ -3,6 +3,7 @@
 use super::*;
 use dia_edge::{MemDisk, MemShelf, MemSink, Name, NoMemory, OpenGate};
 use std::alloc::Global;
+use std::sync::Wait;
 use std::test::Fail;
 
 /// What a shelf, standard output and standard error are to do.
@@ -10,7 +11,7 @@ use std::test::Fail;
 struct Case<'a> {
     words: &'a [&'a str],
     script: &'a [u8],
-    input: Option<&'a [u8]>,
+    inputs: &'a [(&'a str, &'a [u8])],
     step: usize,
     shelf_fails: u64,
     out_fails: u64,
@@ -38,7 +39,8 @@ fn file(alloc: Global, name: &str, bytes: &[u8]) -> Result<(Name, Vec<u8>), NoMe
 }
 
 /// Whether the call ends with this status, and writes just these bytes.
-fn ends(
+fn ends<R: Wait>(
+    rt: &R,
     alloc: Global,
     case: &Case<'_>,
     status: u8,
@@ -49,8 +51,8 @@ fn ends(
     if case.script.len() > 0 {
         files.push(file(alloc, "s", case.script)?)?;
     }
-    if let Some(input) = case.input {
-        files.push(file(alloc, "in", input)?)?;
+    for (name, bytes) in case.inputs {
+        files.push(file(alloc, name, bytes)?)?;
     }
     let mut shelf = MemShelf::new(files, case.step.max(1), fails(alloc, case.shelf_fails)?);
     let mut stdout = MemSink::new(alloc, fails(alloc, case.out_fails)?);
@@ -58,6 +60,7 @@ fn ends(
     let disk = MemDisk::new(alloc, Vec::new(alloc));
     let words = names(alloc, case.words)?;
     let end = thrill_call(
+        rt,
         alloc,
         words.as_slice(),
         &mut shelf,
@@ -71,17 +74,11 @@ fn ends(
 
 const RUN: &[&str] = &["run", "s"];
 
-const TWICE: &[u8] = b"t = lines in\nm = map t f0 f0\nprint m\n";
-
-const MORE: &[u8] = b"t = lines in\nm = map t f0 f0\nprint m\nu = lines nowhere\n";
-
-const ZORK: &[u8] = b"t = lines in\nm = map t f0 f0\nprint m\ns = zork m 1\n";
-
-fn case_of<'a>(script: &'a [u8], input: Option<&'a [u8]>, step: usize) -> Case<'a> {
+fn case_of<'a>(script: &'a [u8], inputs: &'a [(&'a str, &'a [u8])], step: usize) -> Case<'a> {
     Case {
         words: RUN,
         script,
-        input,
+        inputs,
         step,
         shelf_fails: 0,
         out_fails: 0,
@@ -89,93 +86,211 @@ fn case_of<'a>(script: &'a [u8], input: Option<&'a [u8]>, step: usize) -> Case<'
     }
 }
 
-/// Scripts that run, whatever the pieces in which the shelf gives its bytes.
-fn runs(alloc: Global, step: usize) -> Result<bool, NoMemory> {
-    let printed: &[u8] = b"a b\ta b\nc\tc\n";
-    Ok(
-        ends(
-            alloc,
-            &case_of(TWICE, Some(b"a b\nc\n"), step),
-            0,
-            printed,
-            b"",
-        )? && ends(alloc, &case_of(TWICE, Some(b""), step), 0, b"", b"")?
-            && ends(
-                alloc,
-                &case_of(MORE, Some(b"a b\nc"), step),
-                0,
-                printed,
-                b"",
-            )?
-            && ends(alloc, &case_of(b"# none\n", None, step), 0, b"", b"")?
-            && ends(
-                alloc,
-                &case_of(TWICE, None, step),
-                4,
-                b"",
-                b"thrill: missing in\n",
-            )?
-            && ends(
-                alloc,
-                &case_of(ZORK, Some(b"a\n"), step),
-                3,
-                b"",
-                b"thrill: script line 4: UnknownWord\n",
-            )?,
-    )
+/// What each of the log's examples reads, five lines.
+const LOG: &[(&str, &[u8])] = &[(
+    "access.log",
+    b"10.0.0.1 GET /index.html 200 5120\n10.0.0.7 GET /search 500 312\n10.0.0.1 POST /login 302 0\n10.0.0.9 GET /search 500 298\n10.0.0.3 GET /about.html 200 2048\n",
+)];
+
+/// A script, its inputs, the status, what is printed, and the fault's line.
+type Row<'a> = (&'a [u8], &'a [(&'a str, &'a [u8])], u8, &'a [u8], &'a [u8]);
+
+const TWICE: &[u8] = b"t = lines in\nm = map t f0 f0\nprint m\n";
+
+const TEXTS: &[u8] = b"t = lines in\nsize t\nprint t\n";
+
+const ROWS: &[Row<'static>] = &[
+    (TWICE, &[("in", b"a b\nc\n")], 0, b"a b\ta b\nc\tc\n", b""),
+    (TWICE, &[("in", b"")], 0, b"", b""),
+    (b"# none\n", &[], 0, b"", b""),
+    (
+        b"t = lines in\nn = map t len f0\nprint t\nsize t\nsum n 0\n",
+        &[("in", b"")],
+        0,
+        b"0\n0\n",
+        b"",
+    ),
+    (TEXTS, &[("in", b"x\ny")], 0, b"2\nx\ny\n", b""),
+    (TEXTS, &[("in", b"x\n\n")], 0, b"2\nx\n\n", b""),
+    (TEXTS, &[("in", b"\n")], 0, b"1\n\n", b""),
+    (
+        b"g = generate 2\nm = map g sub 0 1\nsum m 0\n",
+        &[],
+        0,
+        b"18446744073709551614\n",
+        b"",
+    ),
+    (
+        b"t = lines in\nn = map t num f0\nprint n\n",
+        &[("in", b"007\n18446744073709551616\n\n")],
+        0,
+        b"7\n0\n0\n",
+        b"",
+    ),
+    (
+        b"t = lines in\nw = flatmap t words 0\nf = filter w eq f0 'b\nsize f\ng = generate 2\nh = flatmap g spread 0 3\nprint h\n",
+        &[("in", b"a b a b\n")],
+        0,
+        b"2\n0\n1\n2\n1\n2\n3\n",
+        b"",
+    ),
+    (
+        b"t = lines in\nprint t\nu = lines nowhere\n",
+        &[("in", b"a\n")],
+        0,
+        b"a\n",
+        b"",
+    ),
+    (
+        b"a = lines x\nprint a\nb = lines y\nprint b\nprint a\n",
+        &[("x", b"1\n"), ("y", b"2\n")],
+        0,
+        b"1\n2\n1\n",
+        b"",
+    ),
+    (
+        b"a = lines x\nb = lines y\nprint b\nprint a\n",
+        &[],
+        4,
+        b"",
+        b"thrill: missing y\n",
+    ),
+    (
+        b"a = lines x\nb = lines y\nprint a\nprint b\n",
+        &[("x", b"1\n")],
+        4,
+        b"1\n",
+        b"thrill: missing y\n",
+    ),
+    (TWICE, &[], 4, b"", b"thrill: missing in\n"),
+    (b"", &[], 4, b"", b"thrill: missing s\n"),
+    // The examples: errors, columns and bytes.
+    (
+        b"log = lines access.log\nbad = filter log eq word 3 f0 '500\nprint bad\nsize bad\n",
+        LOG,
+        0,
+        b"10.0.0.7 GET /search 500 312\n10.0.0.9 GET /search 500 298\n2\n",
+        b"",
+    ),
+    (
+        b"log = lines access.log\ncut = map log word 2 f0 word 0 f0\nprint cut\n",
+        LOG,
+        0,
+        b"/index.html\t10.0.0.1\n/search\t10.0.0.7\n/login\t10.0.0.1\n/search\t10.0.0.9\n/about.html\t10.0.0.3\n",
+        b"",
+    ),
+    (
+        b"log = lines access.log\nbytes = map log num word 4 f0\nsum bytes 0\n",
+        LOG,
+        0,
+        b"7778\n",
+        b"",
+    ),
+    (
+        b"a = generate 1\na = zork b\n",
+        &[],
+        3,
+        b"",
+        b"thrill: script line 2: NameTaken\n",
+    ),
+    (
+        b"b = zork a\n",
+        &[],
+        3,
+        b"",
+        b"thrill: script line 1: UnknownWord\n",
+    ),
+    (
+        b"b = map a f0\n",
+        &[],
+        3,
+        b"",
+        b"thrill: script line 1: UnknownName\n",
+    ),
+    (
+        b"a = generate\n",
+        &[],
+        3,
+        b"",
+        b"thrill: script line 1: BadForm\n",
+    ),
+];
+
+/// Whether each row ends as it says, where the shelf gives so many bytes at a time.
+fn all_end<R: Wait>(rt: &R, alloc: Global, step: usize) -> Result<bool, NoMemory> {
+    for (script, inputs, status, out, err) in ROWS {
+        if !ends(rt, alloc, &case_of(script, inputs, step), *status, out, err)? {
+            return Ok(false);
+        }
+    }
+    Ok(true)
 }
 
+const A: &[(&str, &[u8])] = &[("in", b"a\n")];
+
 /// Objects that fail, and words that mean nothing.
-fn refuses(alloc: Global) -> Result<bool, NoMemory> {
+fn refuses<R: Wait>(rt: &R, alloc: Global) -> Result<bool, NoMemory> {
     let shelf = Case {
         shelf_fails: 2,
-        ..case_of(TWICE, Some(b"a\n"), 1000)
+        ..case_of(TWICE, A, 1000)
     };
     let out = Case {
         out_fails: 1,
-        ..case_of(TWICE, Some(b"a\n"), 1000)
+        ..case_of(TWICE, A, 1000)
     };
     let err = Case {
         err_fails: 1,
-        ..case_of(b"", Some(b"a\n"), 1000)
+        ..case_of(b"", A, 1000)
     };
     let words = Case {
         words: &["run"],
-        ..case_of(TWICE, Some(b"a\n"), 1000)
+        ..case_of(TWICE, A, 1000)
     };
     Ok(
-        ends(alloc, &shelf, 8, b"", b"thrill: read failed\n")?
-            && ends(alloc, &out, 9, b"", b"thrill: write failed\n")?
-            && ends(alloc, &err, 4, b"", b"")?
-            && ends(alloc, &words, 2, b"", b"thrill: usage\n")?,
+        ends(rt, alloc, &shelf, 8, b"", b"thrill: read failed\n")?
+            && ends(rt, alloc, &out, 9, b"", b"thrill: write failed\n")?
+            && ends(rt, alloc, &err, 4, b"", b"")?
+            && ends(rt, alloc, &words, 2, b"", b"thrill: usage\n")?,
     )
 }
 
 #[test]
 fn scripts_run(rt: HostRuntime) -> Result<(), Fail> {
-    assert!(rt; runs(rt.alloc(), 1)?);
-    assert!(rt; runs(rt.alloc(), 1000)?);
+    assert!(rt; all_end(&rt, rt.alloc(), 1)?);
+    assert!(rt; all_end(&rt, rt.alloc(), 1000)?);
     Ok(())
 }
 
 #[test]
 fn faults_have_their_status_and_line(rt: HostRuntime) -> Result<(), Fail> {
-    assert!(rt; refuses(rt.alloc())?);
+    assert!(rt; refuses(&rt, rt.alloc())?);
     Ok(())
 }
 
 #[test]
-fn a_line_that_is_too_long_is_refused(rt: HostRuntime) -> Result<(), Fail> {
+fn a_line_is_a_text_or_too_long(rt: HostRuntime) -> Result<(), Fail> {
     let alloc = rt.alloc();
+    let script = b"t = lines in\nn = map t len f0\nsum n 0\n";
     let mut long = Vec::new(alloc);
-    while long.len() < 65_537 {
+    while long.len() < 65_536 {
         long.push(b'a')?;
     }
-    let input = long.as_slice();
     assert!(rt;
         ends(
+            &rt,
             alloc,
-            &case_of(TWICE, Some(input), 1000),
+            &case_of(script, &[("in", long.as_slice())], 1000),
+            0,
+            b"65536\n",
+            b""
+        )?
+    );
+    long.push(b'a')?;
+    assert!(rt;
+        ends(
+            &rt,
+            alloc,
+            &case_of(script, &[("in", long.as_slice())], 1000),
             5,
             b"",
             b"thrill: in line 1 too long\n"

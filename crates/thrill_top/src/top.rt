@@ -6,7 +6,7 @@ ghost use Rattle.dia_defs.specs.declared.cause.Cause.{Cause};
 ghost use Rattle.dia_edge.specs.Counts.{HasRisen};
 ghost use Rattle.thrill_top.specs.Ends.{Told};
 ghost use Rattle.thrill_top.specs.Faults.{fault_status};
-ghost use Rattle.thrill_top.specs.Promise.{TellsInputs, EndsCall, IsReadable, IsRefusedScript, IsRefusedWith, IsAbsentWith, IsExcused};
+ghost use Rattle.thrill_top.specs.Promise.{TellsInputs, EndsCall, IsReadable, IsRefusedScript, IsRefusedWith, IsAbsentWith, IsExcused, IsWhole};
 ghost use Rattle.thrill_top.specs.Words.{script_of};
 
 use crate::fault::{TopFault, put_fault};
@@ -14,6 +14,7 @@ use crate::job::run_script;
 use crate::words::script_of;
 use dia_edge::{Disk, Gate, Name, Shelf, Sink};
 use std::alloc::Global;
+use std::sync::Wait;
 
 /// How a call of the program ended.
 #[derive(Drop)]
@@ -44,9 +45,9 @@ fn end_with<E: Sink, D: Disk>(fault: TopFault, err: &mut E, disk: D) -> TopEnd<D
 /// Does all that the program does: `run SCRIPT` runs the script, and any other words are a faulty command line.
 ///
 /// The script and the inputs are read from the shelf, the texts of its actions go to `out`, and where the status isn't 0
-/// the fault's line goes to `err`. For now a script has one action at most, the disk isn't used and no worker waits at
-/// the gate.
-pub fn thrill_call<N: Shelf, S: Sink, E: Sink, D: Disk + Send, G: Gate + Sync>(
+/// the fault's line goes to `err`. For now the disk isn't used and no worker waits at the gate.
+pub fn thrill_call<R: Wait, N: Shelf, S: Sink, E: Sink, D: Disk + Send, G: Gate + Sync>(
+    rt: &R,
     alloc: Global,
     words: &[Name],
     shelf: &mut N,
@@ -70,11 +71,11 @@ pub fn thrill_call<N: Shelf, S: Sink, E: Sink, D: Disk + Send, G: Gate + Sync>(
         → script_of words.now ≡ Some name → S.taken out.old ≡ Some start → inputs name ≡ None
         → IsAbsentWith name result.fault ⊎ IsExcused result.status }
     // And where the script is accepted, each input that it needs can be read, and no count rises, the status is 0, or 12
-    // for want of memory.
+    // for want of memory, or 7 where more rows arrive at an action than may.
     ensures complete { (inputs : Inputs) (name start : List ℕ) (script : Script) → TellsInputs (N.holds shelf.old) (N.is_fixed shelf.old) inputs
         → script_of words.now ≡ Some name → S.taken out.old ≡ Some start → IsReadable inputs name script
         → (HasRisen (N.faults shelf.old) (N.faults shelf.new) → ⊥) → (HasRisen (S.faults out.old) (S.faults out.new) → ⊥)
-        → (result.status ≡ 0) ⊎ (result.status ≡ 12) }
+        → IsWhole script inputs result.status }
     // Status 2 comes exactly where the words mean nothing.
     ensures usage { (result.status ≡ 2) ↔ (script_of words.now ≡ None) }
     // 8 and 9 come only where the count of the shelf or of `out` rose in this call.
@@ -89,7 +90,7 @@ pub fn thrill_call<N: Shelf, S: Sink, E: Sink, D: Disk + Send, G: Gate + Sync>(
 {
     match script_of(words) {
         None => end_with(TopFault::Usage, err, disk),
-        Some(name) => match run_script(alloc, name, shelf, out) {
+        Some(name) => match run_script(rt, alloc, name, shelf, out) {
             Ok(()) => TopEnd {
                 status: 0,
                 fault: None,

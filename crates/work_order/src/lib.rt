@@ -8,5 +8,5 @@ mod needed;
 mod statements;
 mod work;
 
-pub use statements::{find_statement, operand};
+pub use statements::{find_statement, form_operand, operand};
 pub use work::{Item, work_of};

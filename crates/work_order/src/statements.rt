@@ -4,7 +4,7 @@ ghost use Rattle.std.specs.Option.{option_map};
 ghost use Rattle.dia_defs.specs.Scripts.{operands_of, action_operand, form_operands, statement_at};
 ghost use Rattle.dia_defs.specs.Work.{is_line};
 ghost use Rattle.script_read.specs.Statements.{numbered_in, statement_in, form_in, action_in};
-ghost use Rattle.work_order.specs.Found.{found_in};
+ghost use Rattle.work_order.specs.Found.{found_in, option_list};
 
 use dia_edge::NoMemory;
 use script_read::{Action, Form, Numbered, Statement};
@@ -30,7 +30,7 @@ pub fn operand(action: &Action) -> u32
     ensures { result ≡ action_operand (action_in action.now) }
 {
     match action {
-        Action::Print { of } => *of,
+        Action::Print { of } | Action::Size { of } | Action::Sum { of, .. } => *of,
     }
 }
 
@@ -43,12 +43,25 @@ pub(crate) fn is_line(statement: &Statement) -> bool
     }
 }
 
+/// The line that a form names, where it names one.
+pub fn form_operand(form: &Form) -> Option<u32>
+    ensures { option_list result ≡ form_operands (form_in form.now) }
+{
+    match form {
+        Form::Lines { .. } | Form::Generate { .. } => None,
+        Form::Map { of, .. }
+        | Form::Filter { of, .. }
+        | Form::Words { of, .. }
+        | Form::Spread { of, .. } => Some(*of),
+    }
+}
+
 fn push_form_operands(form: &Form, numbers: &mut Vec<u32>) -> Result<(), NoMemory>
     ensures { OnOk result (numbers.new.items ≡ numbers.old.items ++ form_operands (form_in form.now)) }
 {
-    match form {
-        Form::Lines { .. } => Ok(()),
-        Form::Map { of, .. } => Ok(numbers.push(*of)?),
+    match form_operand(form) {
+        None => Ok(()),
+        Some(of) => Ok(numbers.push(of)?),
     }
 }
 

@@ -1,11 +1,11 @@
-use Rattle.std.proofs.Common.{List, Option, ℕ, [], ◌∷◌, sym, subst, ap, OnOk, IfErr}
-use Rattle.dia_edge.specs.Shelves.{Holdings}
+use Rattle.std.proofs.Common.{List, [], ◌∷◌, sym, subst, ap}
 use Rattle.dia_defs.specs.Work.{Item, do_action}
 use Rattle.work_order.specs.Items.{item_in}
 use Rattle.thrill_top.specs.declared.kept.Kept.{Kept}
 use Rattle.thrill_top.specs.declared.fault.TopFault.{TopFault}
 use Rattle.thrill_top.specs.Steps.{GoesOn, KeepsOn, Stops}
-use Rattle.thrill_top.proofs.StepLemmas.{OnOk-map, OnOk-all, IfErr-map, action_keeps}
+use Rattle.thrill_top.proofs.StepLemmas.{OnOk-map, OnOk-all, IfErr-map}
+use Rattle.thrill_top.proofs.ActionLemmas.{action_keeps}
 use Rattle.thrill_top.proofs.item.do_item.Goals as goal
 
 pub returns-in-Action-clause-ok : goal.returns-in-Action-clause-ok

@@ -1,20 +1,18 @@
-use Rattle.std.proofs.Common.{[], ◌∷◌, ap, sym, refl, ◌∙◌, Option, ◌≡◌, Some}
-use Rattle.std.specs.Option.{option_map}
-use Rattle.dia_defs.specs.Scripts.{Script, Form, line, lines_form, local_form, map_op, statement_at}
+use Rattle.std.proofs.Common.{[], ◌∷◌, ap, sym, refl, ◌∙◌, Some}
+use Rattle.dia_defs.specs.Scripts.{Script, Form, line, statement_at}
 use Rattle.dia_defs.specs.Work.{do_line}
 use Rattle.script_read.specs.declared.statement.Statement as statements
 use Rattle.script_read.specs.Statements.{statement_in, form_in}
-use Rattle.work_order.specs.Found.{found_in}
-use Rattle.thrill_top.proofs.StepLemmas.{OnOk-map, IfErr-map, source_goes_on, source_keeps, source_stops, memory_stops, local_goes_on, local_keeps}
+use Rattle.thrill_top.proofs.StepLemmas.{OnOk-map, IfErr-map, source_goes_on, source_keeps, source_stops, memory_stops, other_goes_on, other_keeps}
 use Rattle.thrill_top.proofs.item.do_line.Goals as goal
 
 pub returns-in-Ok-clause-ok : goal.returns-in-Ok-clause-ok
 returns-in-Ok-clause-ok g c =
     let found = ap (λ (s : Script). statement_at s c.args.number) (sym c.statements.ensures) ∙ sym c.in-Some-Line.ensures in
     let here = found ∙ ap (λ (s : statements.Statement). Some (statement_in s)) c.in-Some-Line.field-0-is
-    ∙ ap (λ (f : Form). Some (line c.in-Some-Line.field-0-0 f)) (ap form_in c.in-Lines.is) in
+    ∙ ap (λ (f : Form). Some (line c.in-Some-Line.field-0-0 f)) c.in-Some.ensures in
     OnOk-map _ _ _ (λ onto.
-    source_goes_on c.args.script.now (g.N.Shelf.holds c.args.shelf.now) (g.N.Shelf.is_fixed c.args.shelf.now) c.args.number c.in-Some-Line.field-0-0 c.in-Lines.input
+    source_goes_on c.args.script.now (g.N.Shelf.holds c.args.shelf.now) (g.N.Shelf.is_fixed c.args.shelf.now) c.args.number c.in-Some-Line.field-0-0 c.in-Some.input.now
     c.in-Ok.rows c.args.kept.now.items _ _ here c.in-Ok.ensures.read refl refl onto) c.keep.ensures.ok
 
 pub returns-in-Ok-clause-kept : goal.returns-in-Ok-clause-kept
@@ -29,21 +27,19 @@ pub returns-in-Err-clause-refused : goal.returns-in-Err-clause-refused
 returns-in-Err-clause-refused g c = λ taken.
     let found = ap (λ (s : Script). statement_at s c.args.number) (sym c.statements.ensures) ∙ sym c.in-Some-Line.ensures in
     let here = found ∙ ap (λ (s : statements.Statement). Some (statement_in s)) c.in-Some-Line.field-0-is
-    ∙ ap (λ (f : Form). Some (line c.in-Some-Line.field-0-0 f)) (ap form_in c.in-Lines.is) in
-    source_stops c.args.script.now (g.N.Shelf.holds c.args.shelf.now) (g.N.Shelf.is_fixed c.args.shelf.now) c.args.number c.in-Some-Line.field-0-0 c.in-Lines.input
+    ∙ ap (λ (f : Form). Some (line c.in-Some-Line.field-0-0 f)) c.in-Some.ensures in
+    source_stops c.args.script.now (g.N.Shelf.holds c.args.shelf.now) (g.N.Shelf.is_fixed c.args.shelf.now) c.args.number c.in-Some-Line.field-0-0 c.in-Some.input.now
     c.args.kept.now.items taken c.in-Err.f here c.in-Err.ensures.kind c.in-Err.ensures.refused
 
-pub returns-in-Map-clause-ok : goal.returns-in-Map-clause-ok
-returns-in-Map-clause-ok g c = λ taken.
+pub returns-in-None-clause-ok : goal.returns-in-None-clause-ok
+returns-in-None-clause-ok g c = λ taken.
     let found = ap (λ (s : Script). statement_at s c.args.number) (sym c.statements.ensures) ∙ sym c.in-Some-Line.ensures in
-    let here = found ∙ ap (λ (s : statements.Statement). Some (statement_in s)) c.in-Some-Line.field-0-is
-    ∙ ap (λ (f : Form). Some (line c.in-Some-Line.field-0-0 f)) (ap form_in c.in-Map.is) in
-    local_goes_on c.args.script.now (g.N.Shelf.holds c.args.shelf.now) (g.N.Shelf.is_fixed c.args.shelf.now) c.args.number _ _ c.in-Some-Line.field-0-0
-    c.args.kept.now.items taken here
+    let here = found ∙ ap (λ (s : statements.Statement). Some (statement_in s)) c.in-Some-Line.field-0-is in
+    other_goes_on c.args.script.now (g.N.Shelf.holds c.args.shelf.now) (g.N.Shelf.is_fixed c.args.shelf.now) c.args.number c.in-Some-Line.field-0-0 (form_in c.in-Some-Line.form)
+    c.args.kept.now.items taken c.in-None.ensures here
 
-pub returns-in-Map-clause-kept : goal.returns-in-Map-clause-kept
-returns-in-Map-clause-kept g c =
+pub returns-in-None-clause-kept : goal.returns-in-None-clause-kept
+returns-in-None-clause-kept g c =
     let found = ap (λ (s : Script). statement_at s c.args.number) (sym c.statements.ensures) ∙ sym c.in-Some-Line.ensures in
-    let here = found ∙ ap (λ (s : statements.Statement). Some (statement_in s)) c.in-Some-Line.field-0-is
-    ∙ ap (λ (f : Form). Some (line c.in-Some-Line.field-0-0 f)) (ap form_in c.in-Map.is) in
-    local_keeps c.args.script.now c.args.number _ _ c.in-Some-Line.field-0-0 c.args.kept.now.items here
+    let here = found ∙ ap (λ (s : statements.Statement). Some (statement_in s)) c.in-Some-Line.field-0-is in
+    other_keeps c.args.script.now c.args.number c.in-Some-Line.field-0-0 (form_in c.in-Some-Line.form) c.args.kept.now.items c.in-None.ensures here

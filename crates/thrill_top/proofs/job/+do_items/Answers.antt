@@ -1,4 +1,4 @@
-use Rattle.std.proofs.Common.{rules, List, map, ◌∷◌, sym, ap, subst, ◌∙◌}
+use Rattle.std.proofs.Common.{rules, List, sym, ap, subst}
 use Rattle.dia_defs.specs.Work.{Item}
 use Rattle.work_order.specs.Items.{item_in, items_in}
 use Rattle.thrill_top.specs.declared.fault.TopFault.{TopFault}
@@ -13,7 +13,7 @@ do_items-requires g t c κs within =
     let items = ap items_in c.in-Some.ensures.cases.0 in
     let next = midway_next script (item_in c.in-Some.item.now) (items_in c.in-Some.rest.now) c.args.kept.now.items c.do_item.new.kept.items
     (subst Midway items c.requires.midway) c.in-Ok.ensures.kept in
-    (search rules, (search rules, (search rules, (next, c.requires.chains))))
+    (search rules, (search rules, (search rules, (search rules, (next, c.requires.chains)))))
 
 pub returns-in-Ok-clause-ok : goal.returns-in-Ok-clause-ok
 returns-in-Ok-clause-ok g t c =

@@ -1,5 +1,4 @@
-use Rattle.std.proofs.Common.{sym, ap, subst, refl, List, [], ◌∙◌}
-use Rattle.dia_defs.specs.Work.{Item, work_of}
+use Rattle.std.proofs.Common.{sym, ap, subst, refl, List, ◌∙◌}
 use Rattle.run_laws.proofs.WorkLemmas.{work_order}
 use Rattle.work_order.specs.Items.{items_in}
 use Rattle.thrill_top.specs.declared.kept.Kept.{Kept}

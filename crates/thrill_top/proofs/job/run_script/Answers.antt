@@ -1,4 +1,4 @@
-use Rattle.std.proofs.Common.{ℕ, List, Option, Some, Result, sym, ap, subst, refl, ◌∙◌}
+use Rattle.std.proofs.Common.{ℕ, Result, sym, ap, subst, refl, ◌∙◌}
 use Rattle.dia_defs.specs.declared.cause.Cause.{Cause}
 use Rattle.dia_defs.specs.Scripts.{Script}
 use Rattle.dia_defs.specs.Reading.{reading_of}

@@ -1,4 +1,4 @@
-use Rattle.std.proofs.Common.{rules, sym, ap, refl, subst, List, ℕ, OnOk, map, ◌∙◌}
+use Rattle.std.proofs.Common.{rules, sym, ap, refl, subst, List, map}
 use Rattle.dia_defs.specs.Scripts.{Script}
 use Rattle.dia_defs.specs.Reading.{Known}
 use Rattle.script_read.specs.Statements.{form_in, statement_in, numbered_in}
@@ -43,4 +43,4 @@ returns-in_ok-push-in-Line t c =
 pub returns-in-Act : goal.returns-in-Act
 returns-in-Act t c = OnOk-map _ _ _ (λ later.
     action_adds (map numbered_in c.args.statements.now) (map numbered_in c.in-Some.rest.now) (numbered_in c.in-Some.first.now) _ c.args.table.now.items _
-    (ap (map numbered_in) c.in-Some.ensures.cases.0) (ap statement_in c.in-Act.is) refl later) c.add_chains-in-Act.ensures
+    (ap (map numbered_in) c.in-Some.ensures.cases.0) (ap statement_in c.in-Act.is) (λ known n kinds. refl) later) c.add_chains-in-Act.ensures

@@ -1,11 +1,11 @@
-use Rattle.std.proofs.Common.{[], ◌++◌, List, map, sym, ap, subst, ◌∙◌}
-use Rattle.dia_defs.specs.Scripts.{Script}
+use Rattle.std.proofs.Common.{[], List, map, sym, subst}
+use Rattle.std.specs.List.{AllByRecursion}
+use Rattle.dia_defs.specs.Scripts.{Numbered, Script}
 use Rattle.dia_defs.specs.Reading.{nothing_known}
 use Rattle.run_laws.proofs.WorkLemmas.{sound_placed}
 use Rattle.script_read.specs.Statements.{numbered_in}
 use Rattle.thrill_top.specs.declared.making.Made.{Made}
-use Rattle.thrill_top.specs.Making.{IsAmong, line_numbers}
-use Rattle.thrill_top.proofs.MakingLemmas.{numbers_of}
+use Rattle.thrill_top.specs.Making.{IsAmong, IsServedBy}
 use Rattle.thrill_top.proofs.making.chains_of.Goals as goal
 
 pub add_chains-requires : goal.add_chains-requires
@@ -23,8 +23,5 @@ returns c =
     let Table : List Made → Type 0 = λ t. IsAmong script nothing_known 1 (map numbered_in c.statements.result.now) t in
     let among = subst Among (sym c.statements.ensures) (record { sound = c.requires; are = tt; placed = sound_placed script c.requires }) in
     let added = c.in_ok-add_chains.ensures script nothing_known 1 (subst Table (sym c.new-table.ensures.items) among) in
-    record {
-      numbers = added.numbers ∙ ap (λ (t : List Made). numbers_of t ++ line_numbers (map numbered_in c.statements.result.now)) c.new-table.ensures.items
-          ∙ ap line_numbers c.statements.ensures;
-      made = added.made;
-    }
+    let Served : Script → Type 0 = λ xs. AllByRecursion (λ (s : Numbered). IsServedBy added.lines s.statement) xs in
+    record { lines = added.lines; are = added.are; served = subst Served c.statements.ensures added.served }

@@ -1,4 +1,4 @@
-use Rattle.std.proofs.Common.{rules, length, take, arith, sym, ap, ◌∙◌}
+use Rattle.std.proofs.Common.{rules}
 use Rattle.thrill_top.proofs.ReadLemmas.{buffer_more}
 use Rattle.thrill_top.proofs.read.fill_buffer.Goals as goal
 

@@ -1,4 +1,4 @@
-use Rattle.std.proofs.Common.{List, ℕ, Bool, sym, subst, ◌∙◌}
+use Rattle.std.proofs.Common.{List, ℕ, Bool, subst, ◌∙◌}
 use Rattle.std.specs.Prelude.{MatchBool}
 use Rattle.dia_edge.specs.Shelves.{IsOpened, IsAbsent}
 use Rattle.thrill_top.proofs.ReadLemmas.{opened_bytes}

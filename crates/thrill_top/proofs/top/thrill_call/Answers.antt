@@ -1,9 +1,7 @@
-use Rattle.std.proofs.Common.{◌≡◌, ◌⊎◌, ℕ, Option, Some, None, MatchOption, refl, sym, subst}
+use Rattle.std.proofs.Common.{◌⊎◌, Option, Some, None, refl, sym, subst}
 use Rattle.thrill_top.specs.declared.fault.TopFault.{TopFault}
-use Rattle.thrill_top.specs.Faults.{fault_status}
-use Rattle.thrill_top.specs.Ends.{IsRunFault}
-use Rattle.thrill_top.specs.Promise.{EndsCall, IsRefusedWith, IsAbsentWith, IsExcused}
-use Rattle.thrill_top.proofs.EndLemmas.{refused_so, absent_so, complete_so, ends_named}
+use Rattle.thrill_top.specs.Promise.{IsRefusedWith, IsAbsentWith, IsExcused}
+use Rattle.thrill_top.proofs.EndLemmas.{refused_so, absent_so, whole_0, complete_so, ends_named}
 use Rattle.thrill_top.proofs.top.thrill_call.Goals as goal
 
 pub returns-in-Ok-clause-refused : goal.returns-in-Ok-clause-refused
@@ -15,6 +13,9 @@ pub returns-in-Ok-clause-absent : goal.returns-in-Ok-clause-absent
 returns-in-Ok-clause-absent g c = λ inputs name start tells named since absent.
     let ends = ends_named inputs c.in-Some.name.now name start None _ _ c.in-Some.ensures named (c.in-Ok.ensures.ends inputs start tells since) in
     absent_so inputs name start _ None 0 ends refl absent
+
+pub returns-in-Ok-clause-complete : goal.returns-in-Ok-clause-complete
+returns-in-Ok-clause-complete g c = λ inputs name start script tells named since readable shelf out. whole_0 script inputs 0 refl
 
 pub returns-in-Err-clause-refused : goal.returns-in-Err-clause-refused
 returns-in-Err-clause-refused g c = λ inputs name start line cause tells named since refused.

@@ -1,0 +1,24 @@
+-- What the sinks hold of the rows that they took.
+use Rattle.std.specs.Prelude.{◌≡◌, ℕ, ◌+◌, ◌-◌, ◌%◌, ◌^◌, min, List}
+use Rattle.std.specs.List.{flat_map, sum_by}
+use Rattle.dia_defs.specs.Rows.{Row}
+use Rattle.dia_defs.specs.Values.{column, number_in, value_of}
+use Rattle.dia_defs.specs.Runs.{row_text}
+
+-- so many more, where the count stands still at the largest number
+abbrev pub counted : ℕ → ℕ → ℕ → Type 0
+counted before more now = now ≡ min (before + more) (2 ^ 64 - 1)
+
+-- the number in a column
+abbrev pub number_at : ℕ → Row → ℕ
+number_at c row = number_in (value_of (column c) row)
+
+abbrev pub added : ℕ → List Row → ℕ
+added c rows = sum_by (number_at c) rows
+
+-- so much more, modulo 2^64
+abbrev pub summed : ℕ → ℕ → ℕ → Type 0
+summed before more now = now % 2 ^ 64 ≡ (before + more) % 2 ^ 64
+
+abbrev pub texts_of_rows : List Row → List ℕ
+texts_of_rows rows = flat_map row_text rows

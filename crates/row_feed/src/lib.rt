@@ -1,0 +1,23 @@
+//! Rows fed through chains: from the lines of an input, or from numbers, into a counter, an adder or a printer.
+//!
+//! The layer above relies on `feed`, which pushes all rows of a source through a chain into a sink, in order, or stops
+//! at the sink's own refusal; on the sinks, whose `took` says what they hold of the rows; on `print_all`, which prints
+//! the rows; and on `growth`, which bounds how many are made of one. The words stand in `specs/`: Sources, Sinks.
+#![tactic(auto)]
+
+mod counter;
+mod feeding;
+mod growing;
+mod printer;
+mod source;
+mod summer;
+
+pub use counter::Counter;
+pub use feeding::feed;
+pub use growing::{MOST_TOLD, growth};
+pub use printer::{Printer, print_all};
+pub use source::Source;
+pub use summer::Summer;
+
+#[cfg(test)]
+mod tests;

@@ -1,0 +1,163 @@
+-- What follows where no cause applies to a line.
+use Rattle.std.proofs.Common.{◌≡◌, ℕ, ◌<◌, ◌≤◌, Bool, true, false, ◌||◌, not, cond, List, [], ◌∷◌, length, drop, Option, None, Some, is_none, IsSome, unwrap_or, slice_get, refl, sym, ◌∙◌, subst, arith, length-drop}
+use Rattle.std.specs.List.{list_all, list_any}
+use Rattle.std.proofs.lemmas.Bool.{or_parts, true≢false, leb-true, not-false}
+use Rattle.std.proofs.lemmas.Option.{slice_get-get_or}
+use Rattle.dia_defs.specs.declared.kind.Kind.{Kind}
+use Rattle.dia_defs.specs.declared.kind.Kind.TheVariants.{Int, Text}
+use Rattle.dia_defs.specs.declared.cause.Cause.{Cause}
+use Rattle.dia_defs.specs.declared.cause.Cause.TheVariants.{BadForm, UnknownWord, BadNumber}
+use Rattle.dia_defs.specs.declared.word.Word.{Word}
+use Rattle.dia_defs.specs.declared.word.Word.TheVariants.{Map}
+use Rattle.dia_defs.specs.Texts.{number_spelled, number_or_0}
+use Rattle.dia_defs.specs.Values.{Expr, is_int, is_text, expr_kind}
+use Rattle.dia_defs.specs.Expressions as spelling
+use Rattle.dia_defs.specs.Expressions.{Beginning, beginning_of, whole, with_one, with_two, with_three, onto, exprs_of, begins_none, list_fault, number_fault}
+use Rattle.dia_defs.specs.Forms.{fits_count, exprs_without, value_in, first_expr, exprs_in}
+use Rattle.dia_defs.specs.Reading.{Known, Sentence, Test, first_cause, word_tests, is_printable, is_bad_form, is_unknown_word, is_bad_number, has_bad_name, has_bad_count, fault_in, is_outside, is_number_outside, is_kind, is_other_kind, is_one_int}
+use Rattle.script_read.specs.Accepting.{IsAccepted}
+
+abbrev none_apply : List Test → Type 0
+none_apply [] = Unit {0}
+none_apply (test ∷ tests) = (test.applies ≡ false) × none_apply tests
+
+no_test : (tests : List Test) → first_cause tests ≡ None → none_apply tests
+no_test [] is = tt
+no_test (test ∷ tests) is =
+    elim test.applies as (λ t. cond t (Some test.cause) (first_cause tests) ≡ None → (t ≡ false) × none_apply tests) [
+      | true ↦ λ e. let wrong : ⊥ = cc in absurd wrong
+      | false ↦ λ e. (refl, no_test tests e)
+    ] is
+
+four_parts : (a b c d : Bool) → (a || b || c || d) ≡ false → (a ≡ false) × (b ≡ false) × (c ≡ false) × (d ≡ false)
+four_parts true b c d is = let wrong : ⊥ = cc in absurd wrong
+four_parts false true c d is = let wrong : ⊥ = cc in absurd wrong
+four_parts false false true d is = let wrong : ⊥ = cc in absurd wrong
+four_parts false false false true is = let wrong : ⊥ = cc in absurd wrong
+four_parts false false false false is = (refl, refl, refl, refl)
+
+pub accepted : (known : Known) (bytes : List ℕ) (s : Sentence) (word : Word) → first_cause (word_tests known bytes s (Some word)) ≡ None
+    → IsAccepted known word s.args × (list_all is_printable bytes ≡ true)
+accepted known bytes s word is =
+    let names = no_test (word_tests known bytes s (Some word)) is in
+    let words = names.1.1.1 in
+    let columns = words.1.1 in
+    let form = four_parts (not (list_all is_printable bytes)) (has_bad_name s.defines s.word) (has_bad_count (Some word) s.args)
+    (is_bad_form (fault_in (Some word) s.args)) names.0 in (
+      record {
+        count = not-false (fits_count word s.args) form.2;
+        spelled = form.3;
+        operands = names.1.0;
+        words = words.0;
+        numbers = words.1.0;
+        columns = columns.0;
+        kinds = columns.1.0;
+        few = columns.1.1.0;
+      },
+      not-false (list_all is_printable bytes) form.0,
+    )
+
+pub accepted_as : (known : Known) (bytes : List ℕ) (s : Sentence) (w word : Word) (cause : Option Cause) → w ≡ word
+    → cause ≡ first_cause (word_tests known bytes s (Some w)) → cause ≡ None → IsAccepted known word s.args
+accepted_as known bytes s w word cause same is none =
+    let Is : Word → Type 0 = λ v. first_cause (word_tests known bytes s (Some v)) ≡ None in
+    (accepted known bytes s word (subst Is same (sym is ∙ none))).0
+
+-- expressions ----------------------------------------------------------------------------------------------------
+
+some_onto : (b : Option Beginning) (o : Option (List Expr)) (exprs : List Expr) → onto b o ≡ Some exprs → 0 < length exprs
+some_onto b o [] is = absurd (none_onto b o is)
+  where
+    none_onto : (b : Option Beginning) (o : Option (List Expr)) → onto b o ≡ Some [] → ⊥
+    none_onto None o is = cc
+    none_onto (Some (whole e)) None is = cc
+    none_onto (Some (whole e)) (Some exprs) is = cc
+    none_onto (Some (with_one f)) None is = cc
+    none_onto (Some (with_one f)) (Some []) is = cc
+    none_onto (Some (with_one f)) (Some (x ∷ exprs)) is = cc
+    none_onto (Some (with_two f)) None is = cc
+    none_onto (Some (with_two f)) (Some []) is = cc
+    none_onto (Some (with_two f)) (Some (x ∷ [])) is = cc
+    none_onto (Some (with_two f)) (Some (x ∷ y ∷ exprs)) is = cc
+    none_onto (Some (with_three f)) None is = cc
+    none_onto (Some (with_three f)) (Some []) is = cc
+    none_onto (Some (with_three f)) (Some (x ∷ [])) is = cc
+    none_onto (Some (with_three f)) (Some (x ∷ y ∷ [])) is = cc
+    none_onto (Some (with_three f)) (Some (x ∷ y ∷ z ∷ exprs)) is = cc
+some_onto b o (e ∷ exprs) is = omega arith
+
+some_read : (o : Option (List Expr)) → ((exprs : List Expr) → o ≡ Some exprs → 0 < length exprs) → is_none o ≡ false → 0 < length (unwrap_or o [])
+some_read None some is = absurd (true≢false is)
+some_read (Some exprs) some is = some exprs refl
+
+some_of : (words : List (List ℕ)) → 0 < length words → is_none (exprs_of words) ≡ false → 0 < length (unwrap_or (exprs_of words) [])
+unfolding exprs_of
+some_of [] some is = absurd (omega arith)
+some_of (w ∷ words) some is = some_read (onto (beginning_of w) (exprs_of words)) (λ exprs e. some_onto (beginning_of w) (exprs_of words) exprs e) is
+
+by_numbers : (words : List (List ℕ)) (t : Bool) → 0 < length words → is_none (exprs_of words) ≡ false
+    → is_bad_number (cond t (Some BadNumber) None) ≡ false → 0 < length (exprs_without (cond t (Some BadNumber) None) words)
+by_numbers words true some read numbers = absurd (true≢false numbers)
+by_numbers words false some read numbers = some_of words some read
+
+by_form : (words : List (List ℕ)) (t : Bool) → 0 < length words → is_none (exprs_of words) ≡ t
+    → is_bad_form (cond t (Some BadForm) (number_fault words)) ≡ false → is_bad_number (cond t (Some BadForm) (number_fault words)) ≡ false
+    → 0 < length (exprs_without (cond t (Some BadForm) (number_fault words)) words)
+by_form words true some read form numbers = absurd (true≢false form)
+by_form words false some read form numbers = by_numbers words (list_any spelling.is_bad_number words) some read numbers
+
+by_list : (words : List (List ℕ)) (t : Bool) → 0 < length words
+    → is_bad_form (cond t (Some UnknownWord) (cond (is_none (exprs_of words)) (Some BadForm) (number_fault words))) ≡ false
+    → is_unknown_word (cond t (Some UnknownWord) (cond (is_none (exprs_of words)) (Some BadForm) (number_fault words))) ≡ false
+    → is_bad_number (cond t (Some UnknownWord) (cond (is_none (exprs_of words)) (Some BadForm) (number_fault words))) ≡ false
+    → 0 < length (exprs_without (cond t (Some UnknownWord) (cond (is_none (exprs_of words)) (Some BadForm) (number_fault words))) words)
+by_list words true some form known numbers = absurd (true≢false known)
+by_list words false some form known numbers = by_form words (is_none (exprs_of words)) some refl form numbers
+
+length-drop_one : (args : List (List ℕ)) → 2 ≤ length args → 0 < length (drop 1 args)
+length-drop_one args two = let rest = length-drop 1 args in omega arith
+
+-- a map has an expression
+pub some_exprs : (known : Known) (args : List (List ℕ)) → IsAccepted known Map args → 0 < length (exprs_in Map args)
+some_exprs known args h =
+    let words = or_parts false (is_unknown_word (list_fault (drop 1 args))) h.words in
+    let numbers = or_parts false (is_bad_number (list_fault (drop 1 args))) h.numbers in
+    by_list (drop 1 args) (list_any begins_none (drop 1 args)) (length-drop_one args (leb-true 2 (length args) h.count)) h.spelled words.1 numbers.1
+
+int_kind : (kind : Option Kind) → is_int kind ≡ true → kind ≡ Some Int
+int_kind None is = absurd (true≢false (sym is))
+int_kind (Some Int) is = refl
+int_kind (Some Text) is = absurd (true≢false (sym is))
+
+text_kind : (kind : Option Kind) → is_text kind ≡ true → kind ≡ Some Text
+text_kind None is = absurd (true≢false (sym is))
+text_kind (Some Int) is = absurd (true≢false (sym is))
+text_kind (Some Text) is = refl
+
+this_kind : (kind : Kind) (of : Option Kind) → is_kind kind of ≡ true → of ≡ Some kind
+this_kind Int of is = int_kind of is
+this_kind Text of is = text_kind of is
+
+pub one_int : (kinds : List Kind) (exprs : List Expr) → is_one_int kinds exprs ≡ true → expr_kind kinds (first_expr exprs) ≡ Some Int
+one_int kinds [] is = absurd (true≢false (sym is))
+one_int kinds (e ∷ []) is = int_kind (expr_kind kinds e) is
+one_int kinds (e ∷ x ∷ exprs) is = absurd (true≢false (sym is))
+
+-- numbers and columns ---------------------------------------------------------------------------------------------
+
+pub there_at : (args : List (List ℕ)) (n : ℕ) → n < length args → IsSome (slice_get args n)
+there_at args n within = rw (slice_get-get_or args n [] within) refl
+
+pub column_kind_is : (kind : Kind) (kinds : List Kind) (w : Option (List ℕ)) → IsSome w → is_other_kind kind kinds w ≡ false
+    → slice_get kinds (value_in w) ≡ Some kind
+column_kind_is kind kinds None some is = absurd (true≢false (sym some))
+column_kind_is kind kinds (Some w) some is =
+    this_kind kind (slice_get kinds (number_or_0 w)) (not-false (is_kind kind (slice_get kinds (number_or_0 w))) is)
+
+in_range : (range : ℕ → Bool) (o : Option ℕ) → is_number_outside range o ≡ false → range (unwrap_or o 0) ≡ true
+in_range range None is = absurd (true≢false is)
+in_range range (Some n) is = not-false (range n) is
+
+pub value_in_range : (range : ℕ → Bool) (w : Option (List ℕ)) → IsSome w → is_outside range w ≡ false → range (value_in w) ≡ true
+value_in_range range None some is = absurd (true≢false (sym some))
+value_in_range range (Some w) some is = in_range range (number_spelled w) is
