@@ -102,6 +102,20 @@ const TEXTS: &[u8] = b"t = lines in\nsize t\nprint t\n";
 const ROWS: &[Row<'static>] = &[
     (TWICE, &[("in", b"a b\nc\n")], 0, b"a b\ta b\nc\tc\n", b""),
     (TWICE, &[("in", b"")], 0, b"", b""),
+    (
+        b"t = lines in\nm = map t f0 f0\nprint m\nu = lines nowhere\n",
+        &[("in", b"a b\nc")],
+        0,
+        b"a b\ta b\nc\tc\n",
+        b"",
+    ),
+    (
+        b"t = lines in\nm = map t f0 f0\nprint m\ns = zork m 1\n",
+        &[("in", b"a\n")],
+        3,
+        b"",
+        b"thrill: script line 4: UnknownWord\n",
+    ),
     (b"# none\n", &[], 0, b"", b""),
     (
         b"t = lines in\nn = map t len f0\nprint t\nsize t\nsum n 0\n",
@@ -132,13 +146,6 @@ const ROWS: &[Row<'static>] = &[
         &[("in", b"a b a b\n")],
         0,
         b"2\n0\n1\n2\n1\n2\n3\n",
-        b"",
-    ),
-    (
-        b"t = lines in\nprint t\nu = lines nowhere\n",
-        &[("in", b"a\n")],
-        0,
-        b"a\n",
         b"",
     ),
     (
@@ -258,6 +265,29 @@ fn refuses<R: Wait>(rt: &R, alloc: Global) -> Result<bool, NoMemory> {
 fn scripts_run(rt: HostRuntime) -> Result<(), Fail> {
     assert!(rt; all_end(&rt, rt.alloc(), 1)?);
     assert!(rt; all_end(&rt, rt.alloc(), 1000)?);
+    Ok(())
+}
+
+/// Whether two actions on one input end so, where this call of the shelf fails.
+fn twice_used<R: Wait>(
+    rt: &R,
+    alloc: Global,
+    call: u64,
+    status: u8,
+    err: &[u8],
+) -> Result<bool, NoMemory> {
+    let case = Case {
+        shelf_fails: call,
+        ..case_of(TEXTS, A, 1000)
+    };
+    let out: &[u8] = if status == 0 { b"1\na\n" } else { b"" };
+    ends(rt, alloc, &case, status, out, err)
+}
+
+#[test]
+fn an_input_of_two_actions_is_read_once(rt: HostRuntime) -> Result<(), Fail> {
+    assert!(rt; twice_used(&rt, rt.alloc(), 6, 8, b"thrill: read failed\n")?);
+    assert!(rt; twice_used(&rt, rt.alloc(), 7, 0, b"")?);
     Ok(())
 }
 
