@@ -236,22 +236,22 @@ fn all_end<R: Wait>(rt: &R, alloc: Global, step: usize) -> Result<bool, NoMemory
 const A: &[(&str, &[u8])] = &[("in", b"a\n")];
 
 /// Objects that fail, and words that mean nothing.
-fn refuses<R: Wait>(rt: &R, alloc: Global) -> Result<bool, NoMemory> {
+fn refuses<R: Wait>(rt: &R, alloc: Global, step: usize) -> Result<bool, NoMemory> {
     let shelf = Case {
         shelf_fails: 2,
-        ..case_of(TWICE, A, 1000)
+        ..case_of(TWICE, A, step)
     };
     let out = Case {
         out_fails: 1,
-        ..case_of(TWICE, A, 1000)
+        ..case_of(TWICE, A, step)
     };
     let err = Case {
         err_fails: 1,
-        ..case_of(b"", A, 1000)
+        ..case_of(b"", A, step)
     };
     let words = Case {
         words: &["run"],
-        ..case_of(TWICE, A, 1000)
+        ..case_of(TWICE, A, step)
     };
     Ok(
         ends(rt, alloc, &shelf, 8, b"", b"thrill: read failed\n")?
@@ -293,38 +293,44 @@ fn an_input_of_two_actions_is_read_once(rt: HostRuntime) -> Result<(), Fail> {
 
 #[test]
 fn faults_have_their_status_and_line(rt: HostRuntime) -> Result<(), Fail> {
-    assert!(rt; refuses(&rt, rt.alloc())?);
+    assert!(rt; refuses(&rt, rt.alloc(), 1)?);
+    assert!(rt; refuses(&rt, rt.alloc(), 1000)?);
     Ok(())
+}
+
+/// Whether a line of so many bytes ends the call so.
+fn long_line<R: Wait>(
+    rt: &R,
+    alloc: Global,
+    line: &[u8],
+    step: usize,
+    status: u8,
+    out: &[u8],
+    err: &[u8],
+) -> Result<bool, NoMemory> {
+    let script = b"t = lines in\nn = map t len f0\nsum n 0\n";
+    ends(
+        rt,
+        alloc,
+        &case_of(script, &[("in", line)], step),
+        status,
+        out,
+        err,
+    )
 }
 
 #[test]
 fn a_line_is_a_text_or_too_long(rt: HostRuntime) -> Result<(), Fail> {
     let alloc = rt.alloc();
-    let script = b"t = lines in\nn = map t len f0\nsum n 0\n";
     let mut long = Vec::new(alloc);
-    while long.len() < 65_536 {
+    while long.len() < 65_537 {
         long.push(b'a')?;
     }
-    assert!(rt;
-        ends(
-            &rt,
-            alloc,
-            &case_of(script, &[("in", long.as_slice())], 1000),
-            0,
-            b"65536\n",
-            b""
-        )?
-    );
-    long.push(b'a')?;
-    assert!(rt;
-        ends(
-            &rt,
-            alloc,
-            &case_of(script, &[("in", long.as_slice())], 1000),
-            5,
-            b"",
-            b"thrill: in line 1 too long\n"
-        )?
-    );
+    let (text, _) = long.as_slice().split_at(65_536);
+    let told = b"thrill: in line 1 too long\n";
+    for step in [1, 1000] {
+        assert!(rt; long_line(&rt, alloc, text, step, 0, b"65536\n", b"")?);
+        assert!(rt; long_line(&rt, alloc, long.as_slice(), step, 5, b"", told)?);
+    }
     Ok(())
 }
