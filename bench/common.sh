@@ -68,3 +68,43 @@ least() { if [ -z "$1" ]; then echo "$2"; else calculate %s "$1 < $2 ? \"$1\" : 
 # The middle one of some numbers. Ratios are taken of runs that follow one another, since what else the machine does
 # changes from minute to minute.
 median() { printf '%s\n' "$@" | sort -g | awk '{ all[NR] = $1 } END { print all[int((NR + 1) / 2)] }'; }
+
+# Builds the program where it has changed; `program` is then its path. THRILL names another one to run in its place.
+find_program() {
+    program=${THRILL:-$top/crates/thrill_main/out/thrill_main}
+    if [ -n "${THRILL:-}" ]; then return; fi
+    say "building the program where it has changed ..."
+    # Without words the program only says how it is used.
+    (cd "$top/crates/thrill_main" && rt run) >"$work/log" 2>&1 || true
+    if ! grep -q '^rt: running' "$work/log"; then
+        tail -n 30 "$work/log" >&2
+        say "not built: crates/thrill_main"
+        exit 1
+    fi
+}
+
+# The texts of the toolchain and of this repository: no NUL, which some builds of mawk end a line at, and no line
+# longer than a text may be.
+texts() {
+    local kit
+    kit=$(dirname "$(dirname "$(readlink -f "$(command -v rt)")")")
+    find "$kit/rattle" "$top/crates" -name out -prune -o -type f \
+        \( -name '*.md' -o -name '*.rt' -o -name '*.antt' -o -name '*.rs' -o -name '*.txt' -o -name '*.py' \) -print0 |
+        sort -z | xargs -0 cat | tr -d '\000' | awk 'length($0) <= 65536'
+}
+
+# Makes the file `in` of so many megabytes: the lines of standard input, again and again. `fill FOLDER MEGABYTES`
+fill() {
+    local in=$1/in wanted=$(($2 * 1000000))
+    mkdir "$1"
+    cat >"$work/lines"
+    while [ "$(stat -c %s "$in" 2>/dev/null || echo 0)" -lt "$wanted" ]; do
+        cat "$work/lines" >>"$in"
+        # The last line is cut where it ends and not within.
+        if [ "$(stat -c %s "$in")" -gt "$wanted" ]; then
+            truncate -s "$wanted" "$in"
+            sed -i '$ d' "$in"
+            break
+        fi
+    done
+}

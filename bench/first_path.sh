@@ -10,40 +10,10 @@
 
 megabytes=${1:-200}
 runs=7
-kit=$(dirname "$(dirname "$(readlink -f "$(command -v rt)")")")
 
-program=${THRILL:-$top/crates/thrill_main/out/thrill_main}
-if [ -z "${THRILL:-}" ]; then
-    say "building the program where it has changed ..."
-    # Without words the program only says how it is used.
-    (cd "$top/crates/thrill_main" && rt run) >"$work/log" 2>&1 || true
-    if ! grep -q '^rt: running' "$work/log"; then
-        tail -n 30 "$work/log" >&2
-        say "not built: crates/thrill_main"
-        exit 1
-    fi
-fi
-
-# Text lines alone: no NUL, which some builds of mawk end a line at, and none longer than a text may be.
-collect() {
-    find "$kit/rattle" "$top/crates" -name out -prune -o -type f \
-        \( -name '*.md' -o -name '*.rt' -o -name '*.antt' -o -name '*.rs' -o -name '*.txt' -o -name '*.py' \) -print0 |
-        sort -z | xargs -0 cat | tr -d '\000' | awk 'length($0) <= 65536'
-}
-
+find_program
 folder=$work/folder
-mkdir "$folder"
-collect >"$work/texts"
-wanted=$((megabytes * 1000000))
-while [ "$(stat -c %s "$folder/in" 2>/dev/null || echo 0)" -lt "$wanted" ]; do
-    cat "$work/texts" >>"$folder/in"
-    # The last line is cut where it ends and not within.
-    if [ "$(stat -c %s "$folder/in")" -gt "$wanted" ]; then
-        truncate -s "$wanted" "$folder/in"
-        sed -i '$ d' "$folder/in"
-        break
-    fi
-done
+texts | fill "$folder" "$megabytes"
 printf 't = lines in\nm = map t f0 f0\nprint m\n' >"$folder/s"
 cd "$folder"
 

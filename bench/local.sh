@@ -10,41 +10,12 @@
 
 megabytes=${1:-200}
 runs=5
-kit=$(dirname "$(dirname "$(readlink -f "$(command -v rt)")")")
 
-program=${THRILL:-$top/crates/thrill_main/out/thrill_main}
-if [ -z "${THRILL:-}" ]; then
-    say "building the program where it has changed ..."
-    # Without words the program only says how it is used.
-    (cd "$top/crates/thrill_main" && rt run) >"$work/log" 2>&1 || true
-    if ! grep -q '^rt: running' "$work/log"; then
-        tail -n 30 "$work/log" >&2
-        say "not built: crates/thrill_main"
-        exit 1
-    fi
-fi
+find_program
 rustc --edition 2021 -O -o "$work/plain" "$here/local/plain.rs"
-
-# Lines of printable ASCII alone, on which all of the tools agree, and none longer than a text may be.
-collect() {
-    find "$kit/rattle" "$top/crates" -name out -prune -o -type f \
-        \( -name '*.md' -o -name '*.rt' -o -name '*.antt' -o -name '*.rs' -o -name '*.txt' -o -name '*.py' \) -print0 |
-        sort -z | xargs -0 cat | tr -d '\000' | grep -a "^[ -~	]*\$" | awk 'length($0) <= 65536'
-}
-
 folder=$work/folder
-mkdir "$folder"
-collect >"$work/texts"
-wanted=$((megabytes * 1000000))
-while [ "$(stat -c %s "$folder/in" 2>/dev/null || echo 0)" -lt "$wanted" ]; do
-    cat "$work/texts" >>"$folder/in"
-    # The last line is cut where it ends and not within.
-    if [ "$(stat -c %s "$folder/in")" -gt "$wanted" ]; then
-        truncate -s "$wanted" "$folder/in"
-        sed -i '$ d' "$folder/in"
-        break
-    fi
-done
+# Printable ASCII alone, on which all of the tools agree.
+texts | grep -a "^[ -~	]*\$" | fill "$folder" "$megabytes"
 cd "$folder"
 printf 't = lines in\ns = filter t lt len f0 40\nprint s\n' >filter
 printf 't = lines in\nw = flatmap t words 0\nsize w\n' >words
