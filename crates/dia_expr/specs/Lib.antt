@@ -2,7 +2,6 @@ pub mod Exprs
 pub mod Beginnings
 pub mod Reads
 pub mod Typing
-pub mod Pieces
 pub mod Runs
 pub mod Digits
 pub mod Laws

@@ -17,3 +17,8 @@ HasKind kinds (len t) kind = (kind ≡ Int) × HasKind kinds t Text
 HasKind kinds (num t) kind = (kind ≡ Int) × HasKind kinds t Text
 HasKind kinds (spelled a) kind = (kind ≡ Text) × HasKind kinds a Int
 HasKind kinds (part op a t) kind = (kind ≡ Text) × HasKind kinds a Int × HasKind kinds t Text
+
+-- the expression compares two texts
+abbrev pub ComparesTexts : List Kind → Expr → Type 0
+ComparesTexts kinds (compare op x y) = HasKind kinds x Text × HasKind kinds y Text
+ComparesTexts kinds _ = ⊥

@@ -36,16 +36,12 @@ fn run_len(text: &[u8]) -> usize
     ensures run { AreNoBlanks (take result text.now) }
     ensures end { EndsWord (drop result text.now) }
 {
-    let mut rest = text;
-    let mut n = 0;
-    while let Some((b, more)) = rest.split_first() {
-        if is_blank(*b) {
+    for n in 0..text.len() {
+        if is_blank(text[n]) {
             return n;
         }
-        rest = more;
-        n += 1;
     }
-    n
+    text.len()
 }
 
 /// The first word, and what stands behind it; None where no word is left.

@@ -97,3 +97,14 @@ copied_room ks bytes row b h =
       len = row_short (kinds_in b.kinds) b.bytes.items row (copied_is ks bytes row b h);
       room = h.room;
     }
+
+-- a buffer whose only column was set
+pub alone : (kind : Kind) (spelled : List ℕ) (cell : Cell) (b : Inside) → IsField kind spelled cell → kinds_in b.kinds ≡ kind ∷ [] → b.bytes.items ≡ spelled
+    → longest_row ≤ vec_capacity b.bytes → Copied (kind ∷ []) spelled (cell ∷ []) b
+alone kind spelled cell b field kinds items room = record {
+  is = IsRow-append [] [] [] kind spelled cell (refl, refl) field;
+  kinds = kinds;
+  items = items;
+  columns = omega (arith, ap (λ (ks : List Kind). length ks) kinds);
+  room = room;
+}

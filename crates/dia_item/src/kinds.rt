@@ -16,7 +16,7 @@ pub struct Kinds {
 }
 
 impl Kinds {
-    ghost use Rattle.std.specs.Prelude.{◌≡◌, ◌≤◌, ◌<◌, ◌++◌, ◌∷◌, [], IfSome, IsSome, ◌↔◌, length};
+    ghost use Rattle.std.specs.Prelude.{◌≡◌, ◌≤◌, ◌<◌, ◌++◌, ◌∷◌, [], IfSome, IsSome, IsTrue, ◌↔◌, length};
     ghost use Rattle.dia_item.specs.KindList.{kind_list};
 
     /// These kinds; None where there are none of them, or more than six.
@@ -42,6 +42,14 @@ impl Kinds {
         let mut all = [Kind::Int; MOST_COLUMNS];
         all[0] = kind;
         Kinds { all, count: 1 }
+    }
+
+    /// Whether there is one kind, and it is this.
+    #[inline]
+    pub(crate) fn is_one(&self, kind: Kind) -> bool
+        ensures { IsTrue result → kind_list self.now ≡ kind ∷ [] }
+    {
+        self.count == 1 && self.all[0] == kind
     }
 
     /// One more kind.

@@ -45,6 +45,17 @@ fn push_kind(kinds: &mut Option<Kinds>, kind: Kind)
     }
 }
 
+// The kind of an only column. What is there already isn't written again, so that `row` needn't wait for it.
+#[inline]
+fn set_kind(kinds: &mut Option<Kinds>, kind: Kind)
+    ensures { kinds_in kinds.new ≡ kind ∷ [] }
+{
+    match kinds {
+        Some(kinds) if kinds.is_one(kind) => {}
+        _ => *kinds = Some(Kinds::one(kind)),
+    }
+}
+
 // Bytes that there is room for.
 #[inline]
 fn append(bytes: &mut Vec<u8>, more: &[u8])
@@ -115,6 +126,28 @@ impl RowBuf {
         ensures { self.new ≡ self.old ++ text t.now ∷ [] }
     {
         push_kind(&mut self.kinds, Kind::Text);
+        append_u32(&mut self.bytes, t.len() as u32);
+        append(&mut self.bytes, t);
+    }
+
+    /// One column, a number, in place of those that were there.
+    #[inline]
+    pub fn set_int(&mut self, v: u64)
+        ensures { self.new ≡ int v ∷ [] }
+    {
+        set_kind(&mut self.kinds, Kind::Int);
+        self.bytes.clear();
+        append_u64(&mut self.bytes, v);
+    }
+
+    /// One column, a text, in place of those that were there.
+    #[inline]
+    pub fn set_text(&mut self, t: &[u8])
+        requires { length t.now ≤ longest_text }
+        ensures { self.new ≡ text t.now ∷ [] }
+    {
+        set_kind(&mut self.kinds, Kind::Text);
+        self.bytes.clear();
         append_u32(&mut self.bytes, t.len() as u32);
         append(&mut self.bytes, t);
     }

@@ -42,6 +42,8 @@ impl LineRows {
     }
 
     /// The block that is written goes to the full ones, and a new one takes its place.
+    #[cold]
+    #[inline(never)]
     fn turn(&mut self, alloc: Global) -> Result<(), NoMemory>
         ensures { self.new ≡ self.old }
     {
@@ -55,7 +57,7 @@ impl LineRows {
     }
 
     /// One more row, of the text that is `front` and then `back`.
-    #[inline]
+    #[inline(always)]
     pub fn push(&mut self, alloc: Global, front: &[u8], back: &[u8]) -> Result<(), NoMemory>
         requires { length front.now + length back.now ≤ longest_text }
         ensures ok { OnOk result (self.new ≡ self.old ++ line_row (front.now ++ back.now) ∷ []) }

@@ -30,6 +30,13 @@ set_here row c i x v e here =
 pub set_elsewhere : (row : Row) (c i : ℕ) (x v : Cell) → slice_get row i ≡ Some x → i ≢ c → take (i + 1) (slice_set row c v) ≡ take i (slice_set row c v) ++ x ∷ []
 set_elsewhere row c i x v e n = rw add-one (take_next (slice_set row c v) i x (get_set_other row i c v n ∙ e))
 
+-- of one column, that one is set
+pub set_only : (row : Row) (c : ℕ) (v : Cell) → length row ≡ 1 → c < length row → v ∷ [] ≡ slice_set row c v
+set_only [] c v one within = absurd (omega (arith, one))
+set_only (x ∷ []) zero v one within = refl
+set_only (x ∷ []) (suc c) v one within = absurd (omega (arith, within))
+set_only (x ∷ y ∷ row) c v one within = absurd (omega (arith, one))
+
 -- a column that has a kind is there
 pub has_column : (row : Row) (c : ℕ) (kind : Kind) → slice_get (kinds_of row) c ≡ Some kind → c < length row
 has_column row c kind e = omega (arith, slice_get_within (kinds_of row) c kind e, length-map row kind_of)

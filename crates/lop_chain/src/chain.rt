@@ -66,7 +66,7 @@ impl LocalOp for Chain {
             rt,
             self.ops.as_slice(),
             self.buffers.as_mut_slice(),
-            row,
+            &row,
             desk,
             sink,
         )

@@ -9,27 +9,27 @@ ghost use Rattle.dia_item.specs.Fields.{cell_of};
 ghost use Rattle.dia_item.specs.Lent.{row_in_ref};
 ghost use Rattle.lop_chain.specs.Ops.{exprs_in, values_of};
 
-use dia_expr::{Expr, eval};
+use dia_expr::{Expr, eval_ref};
 use dia_item::{Field, RowBuf, RowRef};
 
 /// The values of the expressions on a row, as further columns.
-fn append_values(exprs: &[Expr], row: RowRef<'_>, into: &mut RowBuf)
-    requires kinds { HaveKinds (kinds_of (row_in_ref row)) (exprs_in exprs.now) }
+fn append_values(exprs: &[Expr], row: &RowRef<'_>, into: &mut RowBuf)
+    requires kinds { HaveKinds (kinds_of (row_in_ref row.now)) (exprs_in exprs.now) }
     requires room { length into.old + length exprs.now ≤ 6 }
-    ensures { into.new ≡ into.old ++ values_of (exprs_in exprs.now) (row_in_ref row.entry) }
+    ensures { into.new ≡ into.old ++ values_of (exprs_in exprs.now) (row_in_ref row.now) }
 {
     let Some((expr, rest)) = exprs.split_first() else {
         return;
     };
-    eval(expr, row, into);
+    eval_ref(expr, row, into);
     append_values(rest, row, into);
 }
 
 /// The row that a map makes, in place of what the buffer held.
-pub(crate) fn put_values(exprs: &[Expr], row: RowRef<'_>, into: &mut RowBuf)
-    requires { IsSoundOp (kinds_of (row_in_ref row)) (map_op (exprs_in exprs.now)) }
-    ensures row { into.new ≡ values_of (exprs_in exprs.now) (row_in_ref row.entry) }
-    ensures kinds { kinds_of into.new ≡ op_kinds (kinds_of (row_in_ref row.entry)) (map_op (exprs_in exprs.now)) }
+pub(crate) fn put_values(exprs: &[Expr], row: &RowRef<'_>, into: &mut RowBuf)
+    requires { IsSoundOp (kinds_of (row_in_ref row.now)) (map_op (exprs_in exprs.now)) }
+    ensures row { into.new ≡ values_of (exprs_in exprs.now) (row_in_ref row.now) }
+    ensures kinds { kinds_of into.new ≡ op_kinds (kinds_of (row_in_ref row.now)) (map_op (exprs_in exprs.now)) }
     ensures some { 0 < length into.new }
 {
     into.clear();
@@ -48,11 +48,43 @@ fn push_field(field: Field<'_>, into: &mut RowBuf)
     }
 }
 
+#[inline(always)]
+fn set_field(field: Field<'_>, into: &mut RowBuf)
+    requires { Fits (cell_of field) }
+    ensures { into.new ≡ cell_of field.entry ∷ [] }
+{
+    match field {
+        Field::Int(n) => into.set_int(n),
+        Field::Text(t) => into.set_text(t),
+    }
+}
+
 /// The row with another field in a column, in place of what the buffer held.
-pub(crate) fn put_with(row: RowRef<'_>, column: usize, field: Field<'_>, into: &mut RowBuf)
-    requires column { column < length (row_in_ref row) }
+#[inline(always)]
+pub(crate) fn put_with<'b>(
+    row: &RowRef<'_>,
+    column: usize,
+    field: Field<'_>,
+    into: &'b mut RowBuf,
+) -> RowRef<'b>
+    requires column { column < length (row_in_ref row.now) }
     requires fits { Fits (cell_of field) }
-    ensures row { into.new ≡ slice_set (row_in_ref row.entry) column (cell_of field.entry) }
+    ensures { row_in_ref result ≡ slice_set (row_in_ref row.now) column (cell_of field.entry) }
+{
+    if row.columns() == 1 {
+        set_field(field, into);
+        return into.row();
+    }
+    put_columns(row, column, field, into);
+    into.row()
+}
+
+/// The same column by column.
+#[inline(never)]
+fn put_columns(row: &RowRef<'_>, column: usize, field: Field<'_>, into: &mut RowBuf)
+    requires column { column < length (row_in_ref row.now) }
+    requires fits { Fits (cell_of field) }
+    ensures row { into.new ≡ slice_set (row_in_ref row.now) column (cell_of field.entry) }
     ensures some { 0 < length into.new }
 {
     into.clear();
@@ -63,9 +95,9 @@ pub(crate) fn put_with(row: RowRef<'_>, column: usize, field: Field<'_>, into: &
 }
 
 /// The number in a column.
-pub(crate) fn number_at(row: RowRef<'_>, column: usize) -> u64
-    requires { slice_get (kinds_of (row_in_ref row)) column ≡ Some Int }
-    ensures { result ≡ number_in (value_of (column_of column) (row_in_ref row.entry)) }
+pub(crate) fn number_at(row: &RowRef<'_>, column: usize) -> u64
+    requires { slice_get (kinds_of (row_in_ref row.now)) column ≡ Some Int }
+    ensures { result ≡ number_in (value_of (column_of column) (row_in_ref row.now)) }
 {
     match row.field(column) {
         Field::Int(n) => n,
@@ -74,9 +106,9 @@ pub(crate) fn number_at(row: RowRef<'_>, column: usize) -> u64
 }
 
 /// The bytes of the text in a column.
-pub(crate) fn text_at<'a>(row: RowRef<'a>, column: usize) -> &'a [u8]
-    requires { slice_get (kinds_of (row_in_ref row)) column ≡ Some Text }
-    ensures bytes { result.now ≡ bytes_in (value_of (column_of column) (row_in_ref row.entry)) }
+pub(crate) fn text_at<'a>(row: &RowRef<'a>, column: usize) -> &'a [u8]
+    requires { slice_get (kinds_of (row_in_ref row.now)) column ≡ Some Text }
+    ensures bytes { result.now ≡ bytes_in (value_of (column_of column) (row_in_ref row.now)) }
     ensures short { length result.now ≤ longest_text }
 {
     match row.field(column) {

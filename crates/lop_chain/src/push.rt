@@ -8,42 +8,69 @@ ghost use Rattle.dia_defs.specs.Sound.{AreSoundOps};
 ghost use Rattle.dia_item.specs.Lent.{row_in_ref};
 ghost use Rattle.lop_chain.specs.Rows.{Kinds};
 ghost use Rattle.lop_chain.specs.Calls.{TookAll, TookSome};
-ghost use Rattle.lop_chain.specs.Ops.{ops_in, buffers_needed};
+ghost use Rattle.lop_chain.specs.Ops.{op_in, ops_in, buffers_needed};
 
 use crate::make::{number_at, put_values, put_with, text_at};
 use crate::script_op::ScriptOp;
 use crate::sink::RowSink;
-use dia_expr::{eval_int, split_word};
+use dia_expr::{eval_int_ref, split_word};
 use dia_item::{Field, RowBuf, RowRef};
 use std::sync::Wait;
 
 /// Pushes a row through lines into a sink. Each line that makes rows has a buffer for the one that is under way.
+#[inline(always)]
 #[cycle(push)]
 pub(crate) fn push_through<R: Wait, S: RowSink>(
     rt: &R,
     ops: &[ScriptOp],
     buffers: &mut [RowBuf],
-    row: RowRef<'_>,
+    row: &RowRef<'_>,
     desk: &mut S::Desk,
     sink: &mut S,
 ) -> Result<(), S::Refusal>
     requires buffers { buffers_needed ops.now ≤ length buffers.old }
-    requires fits { (to : Kinds) × AreSoundOps (kinds_of (row_in_ref row)) (ops_in ops.now) to × S.accepts sink.old to }
+    requires fits { (to : Kinds) × AreSoundOps (kinds_of (row_in_ref row.now)) (ops_in ops.now) to × S.accepts sink.old to }
     requires serves { S.serves sink.old desk.old }
     requires is_open { S.is_shut sink.old ≡ false }
     ensures ok { OnOk result
-        (TookAll S.RowSink sink.old desk.old (rows_through (ops_in ops.now) (row_in_ref row.entry)) sink.new desk.new) }
+        (TookAll S.RowSink sink.old desk.old (rows_through (ops_in ops.now) (row_in_ref row.now)) sink.new desk.new) }
     ensures err { IfErr result (λ e.
-        TookSome S.RowSink sink.old desk.old (rows_through (ops_in ops.now) (row_in_ref row.entry)) e sink.new desk.new) }
+        TookSome S.RowSink sink.old desk.old (rows_through (ops_in ops.now) (row_in_ref row.now)) e sink.new desk.new) }
     ensures follows { S.follows desk.old desk.new }
     ensures stays { S.stays sink.old sink.new }
 {
-    let Some((op, rest)) = ops.split_first() else {
-        return sink.take(rt, desk, row);
-    };
+    match ops.split_first() {
+        None => sink.take(rt, desk, *row),
+        Some((op, rest)) => push_op(rt, op, rest, buffers, row, desk, sink),
+    }
+}
+
+/// Pushes a row through a line and those behind it.
+#[inline(never)]
+#[cycle(push)]
+fn push_op<R: Wait, S: RowSink>(
+    rt: &R,
+    op: &ScriptOp,
+    rest: &[ScriptOp],
+    buffers: &mut [RowBuf],
+    row: &RowRef<'_>,
+    desk: &mut S::Desk,
+    sink: &mut S,
+) -> Result<(), S::Refusal>
+    requires buffers { buffers_needed (op.now ∷ rest.now) ≤ length buffers.old }
+    requires fits { (to : Kinds) × AreSoundOps (kinds_of (row_in_ref row.now)) (op_in op.now ∷ ops_in rest.now) to × S.accepts sink.old to }
+    requires serves { S.serves sink.old desk.old }
+    requires is_open { S.is_shut sink.old ≡ false }
+    ensures ok { OnOk result
+        (TookAll S.RowSink sink.old desk.old (rows_through (op_in op.now ∷ ops_in rest.now) (row_in_ref row.now)) sink.new desk.new) }
+    ensures err { IfErr result (λ e.
+        TookSome S.RowSink sink.old desk.old (rows_through (op_in op.now ∷ ops_in rest.now) (row_in_ref row.now)) e sink.new desk.new) }
+    ensures follows { S.follows desk.old desk.new }
+    ensures stays { S.stays sink.old sink.new }
+{
     match (op, buffers.split_first_mut()) {
         (ScriptOp::Filter(expr), _) => {
-            if eval_int(expr, row) != 0 {
+            if eval_int_ref(expr, row) != 0 {
                 push_through(rt, rest, buffers, row, desk, sink)
             } else {
                 Ok(())
@@ -51,7 +78,7 @@ pub(crate) fn push_through<R: Wait, S: RowSink>(
         }
         (ScriptOp::Map(exprs), Some((buffer, buffers))) => {
             put_values(exprs.as_slice(), row, buffer);
-            push_through(rt, rest, buffers, buffer.row(), desk, sink)
+            push_through(rt, rest, buffers, &buffer.row(), desk, sink)
         }
         (ScriptOp::Words { column }, Some((buffer, buffers))) => {
             push_words(rt, rest, buffer, buffers, row, *column, desk, sink)
@@ -64,33 +91,34 @@ pub(crate) fn push_through<R: Wait, S: RowSink>(
 }
 
 /// Pushes the rows with each word of a text, one after the other.
+#[inline(never)]
 #[cycle(push)]
 fn push_words<R: Wait, S: RowSink>(
     rt: &R,
     ops: &[ScriptOp],
     buffer: &mut RowBuf,
     buffers: &mut [RowBuf],
-    row: RowRef<'_>,
+    row: &RowRef<'_>,
     column: u32,
     desk: &mut S::Desk,
     sink: &mut S,
 ) -> Result<(), S::Refusal>
     requires buffers { buffers_needed ops.now ≤ length buffers.old }
-    requires column { slice_get (kinds_of (row_in_ref row)) column ≡ Some Text }
-    requires fits { (to : Kinds) × AreSoundOps (kinds_of (row_in_ref row)) (ops_in ops.now) to × S.accepts sink.old to }
+    requires column { slice_get (kinds_of (row_in_ref row.now)) column ≡ Some Text }
+    requires fits { (to : Kinds) × AreSoundOps (kinds_of (row_in_ref row.now)) (ops_in ops.now) to × S.accepts sink.old to }
     requires serves { S.serves sink.old desk.old }
     requires is_open { S.is_shut sink.old ≡ false }
     ensures ok { OnOk result (TookAll S.RowSink sink.old desk.old
-        (rows_through (words_op column ∷ ops_in ops.now) (row_in_ref row.entry)) sink.new desk.new) }
+        (rows_through (words_op column ∷ ops_in ops.now) (row_in_ref row.now)) sink.new desk.new) }
     ensures err { IfErr result (λ e. TookSome S.RowSink sink.old desk.old
-        (rows_through (words_op column ∷ ops_in ops.now) (row_in_ref row.entry)) e sink.new desk.new) }
+        (rows_through (words_op column ∷ ops_in ops.now) (row_in_ref row.now)) e sink.new desk.new) }
     ensures follows { S.follows desk.old desk.new }
     ensures stays { S.stays sink.old sink.new }
 {
     let mut rest = text_at(row, column as usize);
     while let Some((word, after)) = split_word(rest) {
-        put_with(row, column as usize, Field::Text(word), buffer);
-        match push_through(rt, ops, buffers, buffer.row(), desk, sink) {
+        let made = put_with(row, column as usize, Field::Text(word), buffer);
+        match push_through(rt, ops, buffers, &made, desk, sink) {
             Ok(()) => {}
             Err(refusal) => return Err(refusal),
         }
@@ -100,35 +128,36 @@ fn push_words<R: Wait, S: RowSink>(
 }
 
 /// Pushes the rows with 0, 1 and so on added to a number, one after the other.
+#[inline(never)]
 #[cycle(push)]
 fn push_spread<R: Wait, S: RowSink>(
     rt: &R,
     ops: &[ScriptOp],
     buffer: &mut RowBuf,
     buffers: &mut [RowBuf],
-    row: RowRef<'_>,
+    row: &RowRef<'_>,
     column: u32,
     count: u32,
     desk: &mut S::Desk,
     sink: &mut S,
 ) -> Result<(), S::Refusal>
     requires buffers { buffers_needed ops.now ≤ length buffers.old }
-    requires column { slice_get (kinds_of (row_in_ref row)) column ≡ Some Int }
-    requires fits { (to : Kinds) × AreSoundOps (kinds_of (row_in_ref row)) (ops_in ops.now) to × S.accepts sink.old to }
+    requires column { slice_get (kinds_of (row_in_ref row.now)) column ≡ Some Int }
+    requires fits { (to : Kinds) × AreSoundOps (kinds_of (row_in_ref row.now)) (ops_in ops.now) to × S.accepts sink.old to }
     requires serves { S.serves sink.old desk.old }
     requires is_open { S.is_shut sink.old ≡ false }
     ensures ok { OnOk result (TookAll S.RowSink sink.old desk.old
-        (rows_through (spread_op column count ∷ ops_in ops.now) (row_in_ref row.entry)) sink.new desk.new) }
+        (rows_through (spread_op column count ∷ ops_in ops.now) (row_in_ref row.now)) sink.new desk.new) }
     ensures err { IfErr result (λ e. TookSome S.RowSink sink.old desk.old
-        (rows_through (spread_op column count ∷ ops_in ops.now) (row_in_ref row.entry)) e sink.new desk.new) }
+        (rows_through (spread_op column count ∷ ops_in ops.now) (row_in_ref row.now)) e sink.new desk.new) }
     ensures follows { S.follows desk.old desk.new }
     ensures stays { S.stays sink.old sink.new }
 {
     let first = number_at(row, column as usize);
     for i in 0..count {
         let number = first.wrapping_add(u64::from(i));
-        put_with(row, column as usize, Field::Int(number), buffer);
-        match push_through(rt, ops, buffers, buffer.row(), desk, sink) {
+        let made = put_with(row, column as usize, Field::Int(number), buffer);
+        match push_through(rt, ops, buffers, &made, desk, sink) {
             Ok(()) => {}
             Err(refused) => return Err(refused),
         }

@@ -59,8 +59,7 @@ fn feed_numbers<R: Wait, S: RowSink>(
     ensures stays { S.stays sink.old sink.new }
 {
     for n in 0..count {
-        room.clear();
-        room.push_int(n);
+        room.set_int(n);
         match chain.push(rt, room.row(), desk, sink) {
             Ok(()) => {}
             Err(refusal) => return Err(refusal),

@@ -58,8 +58,9 @@ impl<'b, 'o, S: Sink> RowSink for Printer<'b, 'o, S> {
     // The names of the loans stay, so that their lender knows what they hold after the call.
     ghost stays = { λ a b. (b.out.ghost_name ≡ a.out.ghost_name) × (b.buffer.ghost_name ≡ a.buffer.ghost_name) × (S.faults a.out.now ≤ S.faults b.out.now) };
 
+    #[inline(always)]
     fn take<R: Wait>(&mut self, _rt: &R, _desk: &mut (), row: RowRef<'_>) -> Result<(), Failed> {
-        match push_row(self.buffer, self.out, row) {
+        match push_row(self.buffer, self.out, &row) {
             Ok(()) => Ok(()),
             Err(e) => {
                 self.shut = true;

@@ -78,9 +78,13 @@ fn push_nexts<S: Sink>(buffer: &mut OutBuffer, out: &mut S, row: &RowRef<'_>) ->
 }
 
 /// The columns joined by TAB, and LF.
-pub fn push_row<S: Sink>(buffer: &mut OutBuffer, out: &mut S, row: RowRef<'_>) -> Result<(), Failed>
-    ensures ok { OnOk result (CarriesOn (S.taken out.old) buffer.old (row_text (row_in_ref row.entry)) (S.taken out.new) buffer.new) }
-    ensures failed { OnErr result (TookFront (S.taken out.old) (buffer.old ++ row_text (row_in_ref row.entry)) (S.taken out.new)) }
+pub fn push_row<S: Sink>(
+    buffer: &mut OutBuffer,
+    out: &mut S,
+    row: &RowRef<'_>,
+) -> Result<(), Failed>
+    ensures ok { OnOk result (CarriesOn (S.taken out.old) buffer.old (row_text (row_in_ref row.now)) (S.taken out.new) buffer.new) }
+    ensures failed { OnErr result (TookFront (S.taken out.old) (buffer.old ++ row_text (row_in_ref row.now)) (S.taken out.new)) }
     ensures rose { OnErr result (HasRisen (S.faults out.old) (S.faults out.new)) }
     ensures counts { S.faults out.old ≤ S.faults out.new }
     ensures tells { is_some (S.taken out.new) ≡ is_some (S.taken out.old) }
@@ -90,7 +94,7 @@ pub fn push_row<S: Sink>(buffer: &mut OutBuffer, out: &mut S, row: RowRef<'_>) -
         Ok(()) => {}
         Err(e) => return Err(e),
     }
-    match push_nexts(buffer, out, &row) {
+    match push_nexts(buffer, out, row) {
         Ok(()) => {}
         Err(e) => return Err(e),
     }

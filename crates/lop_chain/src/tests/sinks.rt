@@ -56,7 +56,7 @@ impl RowSink for Tally {
             return Err(Refused::Full);
         }
         self.rows += 1;
-        self.sum = self.sum.wrapping_add(number_at(row, 0));
+        self.sum = self.sum.wrapping_add(number_at(&row, 0));
         Ok(())
     }
 

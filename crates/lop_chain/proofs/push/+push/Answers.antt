@@ -11,19 +11,19 @@ use Rattle.lop_chain.proofs.SetLemmas.{has_column}
 use Rattle.lop_chain.proofs.TakeLemmas.{took_but, took_but_some, took_nothing, refused_one}
 use Rattle.lop_chain.proofs.push.+push.Goals as goal
 
-pub push_through-returns-in_default-clause-err : goal.push_through-returns-in_default-clause-err
-push_through-returns-in_default-clause-err g t c =
-    rw (through_none c.args.ops.now (row_in_ref c.args.row) c.in_default.ensures.cases)
+pub push_through-returns-in-None-clause-err : goal.push_through-returns-in-None-clause-err
+push_through-returns-in-None-clause-err g t c =
+    rw (through_none c.args.ops.now (row_in_ref c.args.row.now) c.in-None.ensures.cases)
     (refused_one g.S.RowSink _ _ _ _ _ _ (g.met.S.RowSink.took_none _) c.take.ensures.refused c.take.ensures.shut)
 
-pub push_words-put_with-requires-clause-column : goal.push_words-put_with-requires-clause-column
-push_words-put_with-requires-clause-column g t c = has_column (row_in_ref c.args.row) c.args.column Text c.requires.column
+pub push_words-put_with-made-requires-clause-column : goal.push_words-put_with-made-requires-clause-column
+push_words-put_with-made-requires-clause-column g t c = has_column (row_in_ref c.args.row.now) c.args.column Text c.requires.column
 
 pub push_words-loop-word-init : goal.push_words-loop-word-init
 push_words-loop-word-init g t c = record {
   but = record {
     done = [];
-    parts = ap (λ (bytes : List ℕ). rows_from (ops_in c.args.ops.now) (map (with_word (row_in_ref c.args.row) c.args.column) (words_in_text bytes))) (sym c.text_at-rest.ensures.bytes);
+    parts = ap (λ (bytes : List ℕ). rows_from (ops_in c.args.ops.now) (map (with_word (row_in_ref c.args.row.now) c.args.column) (words_in_text bytes))) (sym c.text_at-rest.ensures.bytes);
     all = took_nothing g.S.RowSink _ _ (g.met.S.RowSink.took_none _) c.requires.serves c.requires.is_open;
   };
   follows = g.met.S.RowSink.follows_refl _;
@@ -33,26 +33,26 @@ push_words-loop-word-init g t c = record {
 
 pub push_words-push_through-requires : goal.push_words-push_through-requires
 push_words-push_through-requires g t c κs within =
-    let kinds : kinds_of (row_in_ref c.row.result) ≡ kinds_of (row_in_ref c.args.row) =
-    ap (λ (row : Row). kinds_of row) (c.row.ensures ∙ c.put_with.ensures.row) ∙ kinds_of_set (row_in_ref c.args.row) c.args.column (text c.in-Some.word.now) c.requires.column in
+    let kinds : kinds_of (row_in_ref c.put_with-made.result) ≡ kinds_of (row_in_ref c.args.row.now) =
+    ap (λ (row : Row). kinds_of row) c.put_with-made.ensures ∙ kinds_of_set (row_in_ref c.args.row.now) c.args.column (text c.in-Some.word.now) c.requires.column in
     let i = c.loop-word.invariant.but.all in
     (search rules, (search rules, (search rules, (search rules, (search rules, (search rules, ((c.requires.fits.0, rw kinds c.requires.fits.1, i.accepts c.requires.fits.0 c.requires.fits.2), (i.serves, i.is_open))))))))
 
 pub push_words-returns-in-Err-clause-err : goal.push_words-returns-in-Err-clause-err
 push_words-returns-in-Err-clause-err g t c =
     let i = c.loop-word.invariant in
-    let row : row_in_ref c.row.result ≡ with_word (row_in_ref c.args.row) c.args.column c.in-Some.word.now = c.row.ensures ∙ c.put_with.ensures.row in
+    let row : row_in_ref c.put_with-made.result ≡ with_word (row_in_ref c.args.row.now) c.args.column c.in-Some.word.now = c.put_with-made.ensures in
     took_but_some g.S.RowSink g.met.S.RowSink.took_more g.met.S.RowSink.refused_from _ _ _ _ _ _ _ _ _ _ i.follows
-    (rw (next_word (ops_in c.args.ops.now) (row_in_ref c.args.row) c.args.column c.loop-word.rest.now c.in-Some.word.now c.in-Some.after.now c.in-Some.ensures.word) at i.but)
+    (rw (next_word (ops_in c.args.ops.now) (row_in_ref c.args.row.now) c.args.column c.loop-word.rest.now c.in-Some.word.now c.in-Some.after.now c.in-Some.ensures.word) at i.but)
     (rw row at c.in-Err.ensures.err)
 
 pub push_words-loop-word-preserved : goal.push_words-loop-word-preserved
 push_words-loop-word-preserved g t c =
     let i = c.loop-word.invariant in
-    let row : row_in_ref c.row.result ≡ with_word (row_in_ref c.args.row) c.args.column c.in-Some.word.now = c.row.ensures ∙ c.put_with.ensures.row in
+    let row : row_in_ref c.put_with-made.result ≡ with_word (row_in_ref c.args.row.now) c.args.column c.in-Some.word.now = c.put_with-made.ensures in
     record {
       but = took_but g.S.RowSink g.met.S.RowSink.took_more _ _ _ _ _ _ _ _ _
-          (rw (next_word (ops_in c.args.ops.now) (row_in_ref c.args.row) c.args.column c.loop-word.rest.now c.in-Some.word.now c.in-Some.after.now c.in-Some.ensures.word) at i.but)
+          (rw (next_word (ops_in c.args.ops.now) (row_in_ref c.args.row.now) c.args.column c.loop-word.rest.now c.in-Some.word.now c.in-Some.after.now c.in-Some.ensures.word) at i.but)
           (rw row at c.in-Ok.ensures.ok);
       follows = g.met.S.RowSink.follows_trans _ _ _ i.follows c.push_through.ensures.follows;
       stays = g.met.S.RowSink.stays_trans _ _ _ i.stays c.push_through.ensures.stays;
@@ -63,30 +63,30 @@ pub push_spread-loop-i-init : goal.push_spread-loop-i-init
 push_spread-loop-i-init g t c = record {
   but = record {
     done = [];
-    parts = all_numbers (ops_in c.args.ops.now) (row_in_ref c.args.row) c.args.column c.args.count;
+    parts = all_numbers (ops_in c.args.ops.now) (row_in_ref c.args.row.now) c.args.column c.args.count;
     all = took_nothing g.S.RowSink _ _ (g.met.S.RowSink.took_none _) c.requires.serves c.requires.is_open;
   };
   follows = g.met.S.RowSink.follows_refl _;
   stays = g.met.S.RowSink.stays_refl _;
 }
 
-pub push_spread-put_with-requires-clause-column : goal.push_spread-put_with-requires-clause-column
-push_spread-put_with-requires-clause-column g t c = has_column (row_in_ref c.args.row) c.args.column Int c.requires.column
+pub push_spread-put_with-made-requires-clause-column : goal.push_spread-put_with-made-requires-clause-column
+push_spread-put_with-made-requires-clause-column g t c = has_column (row_in_ref c.args.row.now) c.args.column Int c.requires.column
 
 pub push_spread-push_through-requires : goal.push_spread-push_through-requires
 push_spread-push_through-requires g t c κs within =
-    let kinds : kinds_of (row_in_ref c.row.result) ≡ kinds_of (row_in_ref c.args.row) =
-    ap (λ (row : Row). kinds_of row) (c.row.ensures ∙ c.put_with.ensures.row) ∙ kinds_of_set (row_in_ref c.args.row) c.args.column _ c.requires.column in
+    let kinds : kinds_of (row_in_ref c.put_with-made.result) ≡ kinds_of (row_in_ref c.args.row.now) =
+    ap (λ (row : Row). kinds_of row) c.put_with-made.ensures ∙ kinds_of_set (row_in_ref c.args.row.now) c.args.column _ c.requires.column in
     let i = c.loop-i.invariant.but.all in
     (search rules, (search rules, (search rules, (search rules, (search rules, (search rules, ((c.requires.fits.0, rw kinds c.requires.fits.1, i.accepts c.requires.fits.0 c.requires.fits.2), (i.serves, i.is_open))))))))
 
 pub push_spread-loop-i-preserved : goal.push_spread-loop-i-preserved
 push_spread-loop-i-preserved g t c =
     let i = c.loop-i.invariant in
-    let row : row_in_ref c.row.result ≡ raised (row_in_ref c.args.row) c.args.column c.loop-i.i = c.row.ensures ∙ c.put_with.ensures.row ∙ raised_by (row_in_ref c.args.row) c.args.column c.number_at-first.result c.from.result c.loop-i.i c.number_at-first.ensures c.from.ensures in
+    let row : row_in_ref c.put_with-made.result ≡ raised (row_in_ref c.args.row.now) c.args.column c.loop-i.i = c.put_with-made.ensures ∙ raised_by (row_in_ref c.args.row.now) c.args.column c.number_at-first.result c.from.result c.loop-i.i c.number_at-first.ensures c.from.ensures in
     record {
       but = took_but g.S.RowSink g.met.S.RowSink.took_more _ _ _ _ _ _ _ _ _
-          (rw (next_number (ops_in c.args.ops.now) (row_in_ref c.args.row) c.args.column c.loop-i.i c.args.count c.loop-i-test.true) at i.but)
+          (rw (next_number (ops_in c.args.ops.now) (row_in_ref c.args.row.now) c.args.column c.loop-i.i c.args.count c.loop-i-test.true) at i.but)
           (rw row at c.in-Ok.ensures.ok);
       follows = g.met.S.RowSink.follows_trans _ _ _ i.follows c.push_through.ensures.follows;
       stays = g.met.S.RowSink.stays_trans _ _ _ i.stays c.push_through.ensures.stays;
@@ -95,7 +95,7 @@ push_spread-loop-i-preserved g t c =
 pub push_spread-returns-in-Err-clause-err : goal.push_spread-returns-in-Err-clause-err
 push_spread-returns-in-Err-clause-err g t c =
     let i = c.loop-i.invariant in
-    let row : row_in_ref c.row.result ≡ raised (row_in_ref c.args.row) c.args.column c.loop-i.i = c.row.ensures ∙ c.put_with.ensures.row ∙ raised_by (row_in_ref c.args.row) c.args.column c.number_at-first.result c.from.result c.loop-i.i c.number_at-first.ensures c.from.ensures in
+    let row : row_in_ref c.put_with-made.result ≡ raised (row_in_ref c.args.row.now) c.args.column c.loop-i.i = c.put_with-made.ensures ∙ raised_by (row_in_ref c.args.row.now) c.args.column c.number_at-first.result c.from.result c.loop-i.i c.number_at-first.ensures c.from.ensures in
     took_but_some g.S.RowSink g.met.S.RowSink.took_more g.met.S.RowSink.refused_from _ _ _ _ _ _ _ _ _ _ i.follows
-    (rw (next_number (ops_in c.args.ops.now) (row_in_ref c.args.row) c.args.column c.loop-i.i c.args.count c.loop-i-test.true) at i.but)
+    (rw (next_number (ops_in c.args.ops.now) (row_in_ref c.args.row.now) c.args.column c.loop-i.i c.args.count c.loop-i-test.true) at i.but)
     (rw row at c.in-Err.ensures.err)

@@ -10,13 +10,16 @@ use Rattle.lop_chain.specs.Ops.{ops_in, rows_from}
 use Rattle.lop_chain.proofs.push.+push.Given as goal
 
 abbrev pub decreases-push_through : goal.decreases-push_through
-decreases-push_through g l = 2 * length l.ops.now
+decreases-push_through g l = 3 * length l.ops.now
+
+abbrev pub decreases-push_op : goal.decreases-push_op
+decreases-push_op g l = 3 * length l.rest.now + 2
 
 abbrev pub decreases-push_words : goal.decreases-push_words
-decreases-push_words g l = 2 * length l.ops.now + 1
+decreases-push_words g l = 3 * length l.ops.now + 1
 
 abbrev pub decreases-push_spread : goal.decreases-push_spread
-decreases-push_spread g l = 2 * length l.ops.now + 1
+decreases-push_spread g l = 3 * length l.ops.now + 1
 
 abbrev pub invariant-push_words-loop-word : goal.invariant-push_words-loop-word
 invariant-push_words-loop-word g l = record {

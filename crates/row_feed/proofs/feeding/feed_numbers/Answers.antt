@@ -1,5 +1,4 @@
-use Rattle.std.proofs.Common.{◌≡◌, ◌++◌, ◌∷◌, [], ap, ◌∙◌}
-use Rattle.dia_defs.specs.Rows.{Row, int}
+use Rattle.std.proofs.Common.{◌≡◌, ◌∙◌}
 use Rattle.dia_defs.specs.Lists.{number_row}
 use Rattle.dia_item.specs.Lent.{row_in_ref}
 use Rattle.lop_chain.specs.Chains.{chain_ops}
@@ -11,7 +10,7 @@ use Rattle.row_feed.proofs.feeding.feed_numbers.Goals as goal
 pub loop-n-preserved : goal.loop-n-preserved
 loop-n-preserved g c =
     let i = c.loop-n.invariant in
-    let row : row_in_ref c.row.result ≡ number_row c.loop-n.n = c.row.ensures ∙ c.push_int.ensures ∙ ap (λ (r : Row). r ++ int c.loop-n.n ∷ []) c.clear.ensures in
+    let row : row_in_ref c.row.result ≡ number_row c.loop-n.n = c.row.ensures ∙ c.set_int.ensures in
     record {
       but = took_but g.S.RowSink g.met.S.RowSink.took_more _ _ _ _ _ _ _ _ _
           (but_next g.S.RowSink (chain_ops c.args.chain.now) _ _ _ _ (number_row c.loop-n.n) _ _ _ (next_number c.loop-n.n c.args.count c.loop-n-test.true) i.but)
@@ -24,7 +23,7 @@ loop-n-preserved g c =
 pub returns-in-Err-clause-err : goal.returns-in-Err-clause-err
 returns-in-Err-clause-err g c =
     let i = c.loop-n.invariant in
-    let row : row_in_ref c.row.result ≡ number_row c.loop-n.n = c.row.ensures ∙ c.push_int.ensures ∙ ap (λ (r : Row). r ++ int c.loop-n.n ∷ []) c.clear.ensures in
+    let row : row_in_ref c.row.result ≡ number_row c.loop-n.n = c.row.ensures ∙ c.set_int.ensures in
     took_but_some g.S.RowSink g.met.S.RowSink.took_more g.met.S.RowSink.refused_from _ _ _ _ _ _ _ _ _ _ i.follows
     (but_next g.S.RowSink (chain_ops c.args.chain.now) _ _ _ _ (number_row c.loop-n.n) _ _ _ (next_number c.loop-n.n c.args.count c.loop-n-test.true) i.but)
     (some_made_at g.S.RowSink c.args.chain.now c.loop-n.chain (row_in_ref c.row.result) (number_row c.loop-n.n) _ _ _ _ _ row i.same c.in-Err.ensures.err)

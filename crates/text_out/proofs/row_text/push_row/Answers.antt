@@ -11,7 +11,7 @@ use Rattle.text_out.proofs.row_text.push_row.Goals as goal
 
 pub returns-in-Err-clause-failed : goal.returns-in-Err-clause-failed
 returns-in-Err-clause-failed g c =
-    let row = row_in_ref c.args.row in
+    let row = row_in_ref c.args.row.now in
     let before = g.S.Sink.taken c.args.out.now in
     let after = g.S.Sink.taken c.push_field.new.out in
     let Took : List ℕ → Type 0 = λ xs. TookFront before (c.args.buffer.now ++ xs) after in
@@ -20,7 +20,7 @@ returns-in-Err-clause-failed g c =
 
 pub returns-in-Err-push_nexts-clause-failed : goal.returns-in-Err-push_nexts-clause-failed
 returns-in-Err-push_nexts-clause-failed g c =
-    let row = row_in_ref c.args.row in
+    let row = row_in_ref c.args.row.now in
     let before = g.S.Sink.taken c.args.out.now in
     let after = g.S.Sink.taken c.push_nexts.new.out in
     let Took : List ℕ → Type 0 = λ xs. TookFront before (c.args.buffer.now ++ xs) after in
@@ -31,7 +31,7 @@ returns-in-Err-push_nexts-clause-failed g c =
 
 pub returns-in-Ok-push-clause-ok : goal.returns-in-Ok-push-clause-ok
 returns-in-Ok-push-clause-ok g c =
-    let row = row_in_ref c.args.row in
+    let row = row_in_ref c.args.row.now in
     let before = g.S.Sink.taken c.args.out.now in
     let after = g.S.Sink.taken c.push.new.out in
     let Carries : List ℕ → Type 0 = λ xs. CarriesOn before c.args.buffer.now xs after c.push.new.self in
@@ -43,7 +43,7 @@ returns-in-Ok-push-clause-ok g c =
 
 pub returns-in-Err-push-clause-failed : goal.returns-in-Err-push-clause-failed
 returns-in-Err-push-clause-failed g c =
-    let row = row_in_ref c.args.row in
+    let row = row_in_ref c.args.row.now in
     let before = g.S.Sink.taken c.args.out.now in
     let after = g.S.Sink.taken c.push.new.out in
     let Took : List ℕ → Type 0 = λ xs. TookFront before (c.args.buffer.now ++ xs) after in
