@@ -2,3 +2,4 @@ pub mod TextLemmas
 pub mod BlockLemmas
 pub mod TakeLemmas
 pub mod InputLemmas
+mod FitLemmas

@@ -3,3 +3,4 @@ pub mod Blocks
 pub mod Places
 pub mod Taking
 pub mod Inputs
+pub mod Fitting

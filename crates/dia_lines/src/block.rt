@@ -2,6 +2,7 @@
 ghost use Rattle.std.specs.Prelude.{◌≡◌, ◌+◌, ◌≤◌, ◌++◌, ◌∷◌, [], length, IfOk, OnOk, OnErr, vec_len, vec_capacity};
 ghost use Rattle.dia_defs.specs.Rows.{longest_text, bytes_of_u32};
 ghost use Rattle.dia_defs.specs.Pieces.{line_row};
+ghost use Rattle.dia_lines.specs.Fitting.{AllFit};
 
 use dia_edge::NoMemory;
 use std::alloc::Global;
@@ -72,6 +73,14 @@ impl Block {
             bytes: Vec::with_capacity(alloc, BLOCK)?,
             rows: 0,
         })
+    }
+
+    /// How many rows there are, each of which fits.
+    pub(crate) fn row_count(&self) -> usize
+        ensures len { result ≡ length self.now }
+        ensures fit { AllFit self.now }
+    {
+        self.rows
     }
 
     /// Whether the block has room for a row of a text of this length. Nothing rests on it but where a row goes.

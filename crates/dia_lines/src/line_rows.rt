@@ -1,7 +1,9 @@
 //! The rows of an input's lines.
-ghost use Rattle.std.specs.Prelude.{◌≡◌, ◌+◌, ◌≤◌, ◌++◌, ◌∷◌, [], length, IfOk, OnOk, OnErr};
+ghost use Rattle.std.specs.Prelude.{◌≡◌, ◌+◌, ◌-◌, ◌^◌, ◌≤◌, ◌++◌, ◌∷◌, [], length, min, IfOk, OnOk, OnErr};
 ghost use Rattle.dia_defs.specs.Rows.{longest_text};
 ghost use Rattle.dia_defs.specs.Pieces.{line_row};
+ghost use Rattle.dia_lines.specs.Fitting.{AllFit};
+ghost use Rattle.dia_lines.specs.Blocks.{rows_of_blocks};
 
 use crate::block::Block;
 use crate::iter::Iter;
@@ -28,6 +30,18 @@ impl Model for LineRows {
     ghost use Rattle.dia_lines.specs.Blocks.{rows_of_blocks};
 
     ghost view = { λ r. rows_of_blocks r.full.items ++ r.last };
+}
+
+/// How many rows the blocks have, or `u64::MAX` where they have more.
+fn rows_in(blocks: &[Block]) -> u64
+    ensures len { result ≡ min (length (rows_of_blocks blocks.now)) (2 ^ 64 - 1) }
+    ensures fit { AllFit (rows_of_blocks blocks.now) }
+{
+    let mut rows = 0u64;
+    for block in blocks {
+        rows = rows.saturating_add(block.row_count() as u64);
+    }
+    rows
 }
 
 impl LineRows {
@@ -67,6 +81,14 @@ impl LineRows {
             self.turn(alloc)?;
         }
         self.last.push(front, back)
+    }
+
+    /// How many rows there are, or `u64::MAX` where there are more. Each of them fits.
+    pub fn row_count(&self) -> u64
+        ensures len { result ≡ min (length self.now) (2 ^ 64 - 1) }
+        ensures fit { AllFit self.now }
+    {
+        rows_in(self.full.as_slice()).saturating_add(self.last.row_count() as u64)
     }
 
     /// The rows, in order.

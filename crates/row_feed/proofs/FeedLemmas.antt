@@ -1,11 +1,11 @@
 -- The rows of sources, one after the other.
-use Rattle.std.proofs.Common.{◌≡◌, ℕ, suc, ◌+◌, ◌-◌, ◌*◌, ◌<◌, ◌≤◌, ◌^◌, zero, min, List, [], ◌∷◌, ◌++◌, length, map, Option, Result, Ok, Err, IfErr, OnOk, OnErr, append_assoc, refl, sym, ap, ◌∙◌, subst, arith, length-append, suc-mul, mul-suc, mul_comm}
-use Rattle.std.specs.List.{range_with_len, flat_map}
+use Rattle.std.proofs.Common.{◌≡◌, ℕ, suc, ◌+◌, ◌-◌, ◌<◌, ◌≤◌, zero, List, [], ◌∷◌, ◌++◌, length, map, Option, Result, Ok, Err, IfErr, OnOk, OnErr, append_assoc, refl, sym, ap, ◌∙◌, subst, arith}
+use Rattle.std.specs.List.{range_with_len}
 use Rattle.dia_defs.specs.declared.kind.Kind.TheVariants.{Text}
 use Rattle.dia_defs.specs.Rows.{Row, kinds_of}
 use Rattle.dia_defs.specs.Pieces.{line_row, line_rows, lines_of}
-use Rattle.dia_defs.specs.Scripts.{LocalOp, spread_op}
-use Rattle.dia_defs.specs.Lists.{number_row, raised, rows_through}
+use Rattle.dia_defs.specs.Scripts.{LocalOp}
+use Rattle.dia_defs.specs.Lists.{number_row, rows_through}
 use Rattle.dia_defs.specs.Sound.{AreSoundOps}
 use Rattle.std.proofs.lemmas.List.Concat.{flat_map-append}
 use Rattle.dia_defs.specs.Runs.{row_text}
@@ -77,37 +77,14 @@ next_number i n less =
     let e : n - i ≡ suc (n - (i + 1)) = omega arith in
     ap (λ (k : ℕ). map number_row (range_with_len i k)) e
 
--- how many rows are made
-pub flat_few : {A B : Type 0} (f : A → List B) (k : ℕ) (xs : List A) → ((x : A) → length (f x) ≤ k) → length (flat_map f xs) ≤ length xs * k
-flat_few f k [] each = omega arith
-flat_few f k (x ∷ xs) each =
-    let rest = flat_few f k xs each in
-    let first = each x in
-    let long = length-append (f x) (flat_map f xs) in
-    let step : suc (length xs) * k ≡ k + length xs * k = omega (arith, suc-mul (length xs) k) in
-    omega (arith, long, first, rest, step)
-
-numbers_long : (a n : ℕ) → length (range_with_len a n) ≡ n
+-- how many there are
+pub numbers_long : (a n : ℕ) → length (range_with_len a n) ≡ n
 numbers_long a zero = refl
 numbers_long a (suc n) = ap suc (numbers_long (a + 1) n)
 
-mapped_long : {A B : Type 0} (f : A → B) (xs : List A) → length (map f xs) ≡ length xs
+pub mapped_long : {A B : Type 0} (f : A → B) (xs : List A) → length (map f xs) ≡ length xs
 mapped_long f [] = refl
 mapped_long f (x ∷ xs) = ap suc (mapped_long f xs)
-
--- each number that is added makes a row
-pub spread_few : (rest : List LocalOp) (row : Row) (c count behind product told : ℕ) → ((r : Row) → behind ≤ 256 → length (rows_through rest r) ≤ behind)
-    → product ≡ min (behind * count) (2 ^ 64 - 1) → told ≡ product → told ≤ 256 → length (rows_through (spread_op c count ∷ rest) row) ≤ told
-spread_few rest row c zero behind product told each is same small = omega arith
-spread_few rest row c (suc k) behind product told each is same small =
-    let step : behind * suc k ≡ behind + behind * k = omega (arith, mul-suc behind k) in
-    let low : behind ≤ 256 = omega (arith, is, same, small, step) in
-    let rows = map (raised row c) (range_with_len 0 (suc k)) in
-    let few = flat_few (rows_through rest) behind rows (λ r. each r low) in
-    let long : length rows ≡ suc k = mapped_long (raised row c) (range_with_len 0 (suc k)) ∙ numbers_long 0 (suc k) in
-    let turned : suc k * behind ≡ behind + behind * k = mul_comm (suc k) behind ∙ step in
-    let count : length rows * behind ≡ behind + behind * k = ap (λ (n : ℕ). n * behind) long ∙ turned in
-    omega (arith, is, same, small, step, few, count)
 
 -- printing ------------------------------------------------------------------------------------------------------------
 

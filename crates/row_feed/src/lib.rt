@@ -2,7 +2,7 @@
 //!
 //! The layer above relies on `feed`, which pushes all rows of a source through a chain into a sink, in order, or stops
 //! at the sink's own refusal; on the sinks, whose `took` says what they hold of the rows; on `print_all`, which prints
-//! the rows; and on `growth`, which bounds how many are made of one. The words stand in `specs/`: Sources, Sinks.
+//! the rows; and on `most_made`, which bounds how many are made. The words stand in `specs/`: Sources, Sinks, Growth.
 #![tactic(auto)]
 
 mod counter;
@@ -14,7 +14,7 @@ mod summer;
 
 pub use counter::Counter;
 pub use feeding::feed;
-pub use growing::{MOST_TOLD, growth};
+pub use growing::most_made;
 pub use printer::{Printer, print_all};
 pub use source::Source;
 pub use summer::Summer;

@@ -1,12 +1,12 @@
 -- How an action goes on.
-use Rattle.std.proofs.Common.{◌≡◌, ℕ, zero, suc, ◌+◌, ◌<◌, ◌≤◌, Bool, true, false, cond, ltb, List, [], ◌∷◌, ◌++◌, length, map, Option, None, Some, IsSome, find, refl, sym, ap, ◌∙◌, subst, arith, append_assoc}
+use Rattle.std.proofs.Common.{◌≡◌, ℕ, ◌<◌, ◌≤◌, Bool, true, false, cond, ltb, List, [], ◌∷◌, ◌++◌, length, map, Option, None, Some, IsSome, find, refl, sym, ap, ◌∙◌, subst, arith, append_assoc}
 use Rattle.std.specs.List.{AllByRecursion, flat_map, range_with_len}
 use Rattle.std.proofs.lemmas.Bool.{ltb-false, ltb-true}
 use Rattle.dia_defs.specs.declared.kind.Kind.{Kind}
 use Rattle.dia_defs.specs.Rows.{Row}
 use Rattle.dia_defs.specs.Sound.{AreSoundOps, IsSoundAction}
 use Rattle.dia_defs.specs.Scripts.{LocalOp, Form, lines_form, generate_form, local_form, Action, print_action, size_action, sum_action, action_operand, Statement, line, act, Script, statement_at}
-use Rattle.dia_defs.specs.Lists.{Inputs, Lists, too_many_rows, number_row, longest_input, most_rows, block_of_action, rows_in}
+use Rattle.dia_defs.specs.Lists.{Inputs, Lists, too_many_rows, number_row, most_rows, block_of_action, rows_in}
 use Rattle.dia_defs.specs.Work.{Item, do_action, has_number}
 use Rattle.dia_defs.specs.Runs.{IsRightStatement, block_of_statement, action_text, row_text}
 use Rattle.dia_edge.specs.Shelves.{Holdings}
@@ -23,11 +23,11 @@ use Rattle.row_feed.specs.declared.source.Source.TheVariants.{Lines, Numbers}
 use Rattle.row_feed.specs.Sources.{source_rows, source_kinds}
 use Rattle.lop_chain.specs.Ops.{rows_from}
 use Rattle.thrill_top.specs.Ends.{IsActFault}
-use Rattle.thrill_top.specs.Making.{ops_of, IsRoot, root_kinds, IsFew, AreChains, with_number}
+use Rattle.thrill_top.specs.Making.{ops_of, IsRoot, root_kinds, AreChains, with_number}
 use Rattle.thrill_top.specs.Promise.{IsTooMany}
 use Rattle.thrill_top.specs.Steps.{kept_at, AreLines, IsMidway, IsListed, GoesOn, Stops, KeepsOn, HasRoot, IsSourceOf, text_of_rows}
 use Rattle.thrill_top.proofs.MakingLemmas.{IsChainOf, chain_of_action}
-use Rattle.thrill_top.proofs.StepLemmas.{found_same, mapped_length, kept_listed, IsDeviceFault, device_end, stops_here}
+use Rattle.thrill_top.proofs.StepLemmas.{found_same, kept_listed, IsDeviceFault, device_end, stops_here}
 
 pub action_keeps : (script : Script) (n : ℕ) (kept : List Kept) → KeepsOn script (do_action n ∷ []) kept kept
 action_keeps script n kept = λ done left work are. record {
@@ -89,36 +89,27 @@ source_sound (generate_form count) kept root (Lines rows) is = absurd is
 source_sound (local_form of op) kept root (Lines rows) is = absurd is
 source_sound (local_form of op) kept root (Numbers n) is = absurd is
 
-numbers_length : (a n : ℕ) → length (range_with_len a n) ≡ n
-numbers_length a zero = refl
-numbers_length a (suc n) = ap suc (numbers_length (a + 1) n)
-
 -- the rows of a source are the list of its line
 root_list : (script : Script) (inputs : Inputs) (lists : Lists) (done : List Item) (kept : List Kept) (root : ℕ) (name : List ℕ) (form : Form) (source : Source)
     → IsRunOf script inputs lists done → AllByRecursion (IsListed lists) kept → has_number (lines_among done) root ≡ true
-    → statement_at script root ≡ Some (line name form) → IsFew form → IsSourceOf form kept root source
-    → (lists root ≡ Some (source_rows source)) × (length (source_rows source) ≤ longest_input)
-root_list script inputs lists done kept root name (lines_form input) (Lines rows) run all has is few of = kept_listed lists kept root rows.now all of
-root_list script inputs lists done kept root name (generate_form count) (Numbers n) run all has is few of =
+    → statement_at script root ≡ Some (line name form) → IsSourceOf form kept root source
+    → lists root ≡ Some (source_rows source)
+root_list script inputs lists done kept root name (lines_form input) (Lines rows) run all has is of = kept_listed lists kept root rows.now all of
+root_list script inputs lists done kept root name (generate_form count) (Numbers n) run all has is of =
     let Right : Option Statement → Type 0 = λ o. IsRightStatement inputs lists root o in
     let r = subst Right is (right_at script inputs lists done root run.right has) in
     let Rows : ℕ → Type 0 = λ k. r.0 ≡ map number_row (range_with_len 0 k) in
-    let long : length (map number_row (range_with_len 0 n)) ≡ n = mapped_length number_row (range_with_len 0 n) ∙ numbers_length 0 n in
-    (r.1 ∙ ap Some (subst Rows (sym of) r.2), omega (arith, long, of, few))
-root_list script inputs lists done kept root name (lines_form input) (Numbers n) run all has is few of = absurd of
-root_list script inputs lists done kept root name (generate_form count) (Lines rows) run all has is few of = absurd of
-root_list script inputs lists done kept root name (local_form m op) (Lines rows) run all has is few of = absurd of
-root_list script inputs lists done kept root name (local_form m op) (Numbers n) run all has is few of = absurd of
+    r.1 ∙ ap Some (subst Rows (sym of) r.2)
+root_list script inputs lists done kept root name (lines_form input) (Numbers n) run all has is of = absurd of
+root_list script inputs lists done kept root name (generate_form count) (Lines rows) run all has is of = absurd of
+root_list script inputs lists done kept root name (local_form m op) (Lines rows) run all has is of = absurd of
+root_list script inputs lists done kept root name (local_form m op) (Numbers n) run all has is of = absurd of
 
 -- the rows that arrive at an action
-record IsActed (lists : Lists) (action : Action) (source : Source) (rows : List Row) : Type 0 where
-  list : lists (action_operand action) ≡ Some rows
-  short : length (source_rows source) ≤ longest_input
-
 acted : (script : Script) (inputs : Inputs) (lists : Lists) (done left : List Item) (chains : List Made) (kept : List Kept) (action : Action) (source : Source)
     → InWork script done left → IsRunOf script inputs lists done → AllByRecursion (IsListed lists) kept → has_number (lines_among done) (action_operand action) ≡ true
     → (s : IsServed script chains kept action) → IsSourceOf s.chain.rooted.form kept s.chain.made.root source
-    → IsActed lists action source (rows_from (ops_of s.chain.made.ops.items) (source_rows source))
+    → lists (action_operand action) ≡ Some (rows_from (ops_of s.chain.made.ops.items) (source_rows source))
 acted script inputs lists done left chains kept action source work run all has s of =
     let c = s.chain in
     let made = c.made in
@@ -126,10 +117,10 @@ acted script inputs lists done left chains kept action source work run all has s
     let Has : ℕ → Type 0 = λ k. has_number (lines_among done) k ≡ true in
     let m = chains_make script inputs lists done left made.root ops made.number work run c.rooted.chain (subst Has (sym c.number) has) in
     let l = root_list script inputs lists done kept made.root c.rooted.name c.rooted.form source run all (root_done script chains done left action work c has)
-    c.rooted.root c.rooted.few of in
-    let same : m.0 ≡ source_rows source = some_rows m.0 (source_rows source) (sym m.1 ∙ l.0) in
+    c.rooted.root of in
+    let same : m.0 ≡ source_rows source = some_rows m.0 (source_rows source) (sym m.1 ∙ l) in
     let At : ℕ → Type 0 = λ k. lists k ≡ Some (rows_from ops (source_rows source)) in
-    record { list = subst At c.number (m.2 ∙ ap (λ (rs : List Row). Some (rows_from ops rs)) same); short = l.1 }
+    subst At c.number (m.2 ∙ ap (λ (rs : List Row). Some (rows_from ops rs)) same)
 
 text_is : (lists : Lists) (action : Action) (rows : List Row) → lists (action_operand action) ≡ Some rows → action_text lists action ≡ text_of_rows action rows
 text_is lists (print_action of) rows is = ap (λ (o : Option (List Row)). flat_map row_text (rows_in o)) is
@@ -162,34 +153,34 @@ took_since taken now start texts text is took =
 
 pub act_goes_on : (script : Script) (n : ℕ) (action : Action) (chains : List Made) (kept : List Kept) (taken now : Option (List ℕ)) (source : Source)
     → statement_at script n ≡ Some (act action) → (s : IsServed script chains kept action) → IsSourceOf s.chain.rooted.form kept s.chain.made.root source
-    → (length (source_rows source) ≤ longest_input → length (rows_from (ops_of s.chain.made.ops.items) (source_rows source)) ≤ most_rows)
+    → length (rows_from (ops_of s.chain.made.ops.items) (source_rows source)) ≤ most_rows
     → TookAll taken (text_of_rows action (rows_from (ops_of s.chain.made.ops.items) (source_rows source))) now
     → (holds : Option Holdings) (fixed : Bool) → GoesOn script holds fixed (do_action n ∷ []) kept taken kept now
 act_goes_on script n action chains kept taken now source is s of few took = λ holds fixed inputs start done left tells work at.
     let has = operand_has script (lines_among done) n action work.order.0 is in
     let rows = rows_from (ops_of s.chain.made.ops.items) (source_rows source) in
     let p = acted script inputs at.lists done (do_action n ∷ left) chains kept action source work at.run at.are has s of in
-    let g = action_goes_on script inputs at.lists done left n action work at.run is (not_many at.lists action rows p.list (few p.short)) in
+    let g = action_goes_on script inputs at.lists done left n action work at.run is (not_many at.lists action rows p few) in
     let Took : List ℕ → Type 0 = λ t. TookAll taken t now in
     record {
       lists = at.lists;
       run = g.0;
       are = at.are;
-      since = took_since taken now start (texts_among script at.lists done) (action_text at.lists action) at.since (subst Took (sym (text_is at.lists action rows p.list)) took)
+      since = took_since taken now start (texts_among script at.lists done) (action_text at.lists action) at.since (subst Took (sym (text_is at.lists action rows p)) took)
           ∙ ap (λ (t : List ℕ). Some (start ++ t)) (sym g.1);
     }
 
 -- a write that failed
 write_stops : (script : Script) (n : ℕ) (action : Action) (chains : List Made) (kept : List Kept) (taken now : Option (List ℕ)) (source : Source) (f : TopFault)
     → statement_at script n ≡ Some (act action) → (s : IsServed script chains kept action) → IsSourceOf s.chain.rooted.form kept s.chain.made.root source
-    → (length (source_rows source) ≤ longest_input → length (rows_from (ops_of s.chain.made.ops.items) (source_rows source)) ≤ most_rows)
+    → length (rows_from (ops_of s.chain.made.ops.items) (source_rows source)) ≤ most_rows
     → TookFront taken (text_of_rows action (rows_from (ops_of s.chain.made.ops.items) (source_rows source))) now → IsDeviceFault f
     → (holds : Option Holdings) (fixed : Bool) → Stops script holds fixed (do_action n ∷ []) kept taken f now
 write_stops script n action chains kept taken now source f is s of few took kind = λ holds fixed inputs start done left tells work at.
     let has = operand_has script (lines_among done) n action work.order.0 is in
     let rows = rows_from (ops_of s.chain.made.ops.items) (source_rows source) in
     let p = acted script inputs at.lists done (do_action n ∷ left) chains kept action source work at.run at.are has s of in
-    let g = action_goes_on script inputs at.lists done left n action work at.run is (not_many at.lists action rows p.list (few p.short)) in
+    let g = action_goes_on script inputs at.lists done left n action work at.run is (not_many at.lists action rows p few) in
     let w = goes_on script done left (do_action n) work in
     let r = runs_are_runs script inputs at.lists (done ++ do_action n ∷ []) left w g.0 in
     let texts = texts_among script at.lists done in
@@ -203,7 +194,7 @@ write_stops script n action chains kept taken now source f is s of few took kind
         all = texts ++ action_text at.lists action;
         done = record { lists = at.lists; run = r.0; texts = sym (r.1 ∙ g.1) };
         rest = front.1;
-        parts = ap (λ (t : List ℕ). texts ++ t) (text_is at.lists action rows p.list ∙ front.2) ∙ sym (append_assoc texts front.0 front.1);
+        parts = ap (λ (t : List ℕ). texts ++ t) (text_is at.lists action rows p ∙ front.2) ∙ sym (append_assoc texts front.0 front.1);
       });
     }
 
@@ -227,13 +218,13 @@ many_stops script n k action chains kept taken source is s of same many = λ hol
         done = record { lists = at.lists; run = r.0; texts = sym r.1 };
         left = left;
         work = r.2;
-        blocked = ap (block_of_statement inputs at.lists) is ∙ many_block at.lists action rows p.list many;
+        blocked = ap (block_of_statement inputs at.lists) is ∙ many_block at.lists action rows p many;
       });
     }
 
 pub act_stops : (script : Script) (n : ℕ) (action : Action) (chains : List Made) (kept : List Kept) (taken now : Option (List ℕ)) (source : Source) (f : TopFault)
     → statement_at script n ≡ Some (act action) → (s : IsServed script chains kept action) → IsSourceOf s.chain.rooted.form kept s.chain.made.root source
-    → IsActFault n (length (source_rows source)) (rows_from (ops_of s.chain.made.ops.items) (source_rows source))
+    → IsActFault n (rows_from (ops_of s.chain.made.ops.items) (source_rows source))
     (text_of_rows action (rows_from (ops_of s.chain.made.ops.items) (source_rows source))) f taken now
     → (holds : Option Holdings) (fixed : Bool) → Stops script holds fixed (do_action n ∷ []) kept taken f now
 act_stops script n action chains kept taken now source (faults.TooManyRows k) is s of h = λ holds fixed.
@@ -294,19 +285,19 @@ found_sound script chains kept n action ops source f =
 
 pub found_goes_on : (script : Script) (chains : List Made) (kept : List Kept) (n : ℕ) (action : Action) (ops : List LocalOp) (source : Source) (taken now : Option (List ℕ))
     → IsFound script chains kept n action ops source → TookAll taken (text_of_rows action (rows_from ops (source_rows source))) now
-    → (length (source_rows source) ≤ longest_input → length (rows_from ops (source_rows source)) ≤ most_rows)
+    → length (rows_from ops (source_rows source)) ≤ most_rows
     → (holds : Option Holdings) (fixed : Bool) → GoesOn script holds fixed (do_action n ∷ []) kept taken kept now
 found_goes_on script chains kept n action ops source taken now f took few =
     let rows = source_rows source in
     let Took : List LocalOp → Type 0 = λ os. TookAll taken (text_of_rows action (rows_from os rows)) now in
-    let Few : List LocalOp → Type 0 = λ os. length rows ≤ longest_input → length (rows_from os rows) ≤ most_rows in
+    let Few : List LocalOp → Type 0 = λ os. length (rows_from os rows) ≤ most_rows in
     act_goes_on script n action chains kept taken now source f.is f.serves f.of (subst Few (sym f.same) few) (subst Took (sym f.same) took)
 
 pub found_stops : (script : Script) (chains : List Made) (kept : List Kept) (n : ℕ) (action : Action) (ops : List LocalOp) (source : Source) (taken now : Option (List ℕ))
     → IsFound script chains kept n action ops source → (f : TopFault)
-    → IsActFault n (length (source_rows source)) (rows_from ops (source_rows source)) (text_of_rows action (rows_from ops (source_rows source))) f taken now
+    → IsActFault n (rows_from ops (source_rows source)) (text_of_rows action (rows_from ops (source_rows source))) f taken now
     → (holds : Option Holdings) (fixed : Bool) → Stops script holds fixed (do_action n ∷ []) kept taken f now
 found_stops script chains kept n action ops source taken now found f h =
     let rows = source_rows source in
-    let Fault : List LocalOp → Type 0 = λ os. IsActFault n (length rows) (rows_from os rows) (text_of_rows action (rows_from os rows)) f taken now in
+    let Fault : List LocalOp → Type 0 = λ os. IsActFault n (rows_from os rows) (text_of_rows action (rows_from os rows)) f taken now in
     act_stops script n action chains kept taken now source f found.is found.serves found.of (subst Fault (sym found.same) h)

@@ -8,7 +8,7 @@ use Rattle.dia_defs.specs.Reading.{Earlier, Known, known_after}
 use Rattle.dia_defs.specs.Sound.{IsSoundOp, op_kinds, AreSoundOps, IsSoundAction, earlier_numbered, kinds_of_earlier, IsSound, IsSoundStatement, IsSoundForm, form_kinds, statement_kinds}
 use Rattle.run_laws.specs.Laws.{IsChain}
 use Rattle.thrill_top.specs.declared.making.Made.{Made}
-use Rattle.thrill_top.specs.Making.{op_of, ops_of, IsRoot, root_kinds, IsFew, IsMadeOf, IsRooted, IsFormMade, AreMade, with_number, IsServedBy, IsAdded, AreChains, IsAmong}
+use Rattle.thrill_top.specs.Making.{op_of, ops_of, IsRoot, root_kinds, IsMadeOf, IsRooted, IsFormMade, AreMade, with_number, IsServedBy, IsAdded, AreChains, IsAmong}
 
 -- the chain of an earlier line
 pub record IsUnder (script : Script) (table : List Made) (n : ℕ) (e : Earlier) : Type 0 where
@@ -83,11 +83,6 @@ root_form_kinds known (lines_form input) alone = refl
 root_form_kinds known (generate_form count) alone = refl
 root_form_kinds known (local_form of op) alone = absurd alone
 
-root_few : (known : Known) (form : Form) → IsRoot form → IsSoundForm known form → IsFew form
-root_few known (lines_form input) alone sound = tt
-root_few known (generate_form count) alone sound = sound
-root_few known (local_form of op) alone sound = absurd alone
-
 -- the chain of a line that names none
 pub root_made : (script : Script) (known : Known) (n : ℕ) (name : List ℕ) (form : Form) (m : Made) → statement_at script n ≡ Some (line name form) → IsRoot form
     → IsSoundForm known form → m.number ≡ n → m.root ≡ n → m.ops.items ≡ [] → IsFormMade script n (form_kinds known form) m
@@ -102,7 +97,6 @@ root_made script known n name form m is alone sound number root none =
         form = form;
         root = ap (statement_at script) root ∙ is;
         alone = alone;
-        few = root_few known form alone sound;
         chain = subst Chain (sym ops) (root ∙ sym number);
         makes = subst Sound (sym ops) (sym (root_form_kinds known form alone));
       };
@@ -131,7 +125,6 @@ local_made script table n of name o e op m under there sound u found is number r
         form = r.form;
         root = subst Root (sym root) r.root;
         alone = r.alone;
-        few = r.few;
         chain = rw (root, number, onto) chain;
         makes = rw (onto, ← kinds) more;
       };

@@ -1,12 +1,12 @@
 -- How each item of the work goes on.
-use Rattle.std.proofs.Common.{◌≡◌, ℕ, suc, ◌+◌, ◌≤◌, Bool, true, false, cond, eqb, ltb, List, [], ◌∷◌, ◌++◌, length, map, Option, None, Some, is_some, IsSome, IfSome, Result, Ok, Err, OnOk, OnErr, IfErr, find, refl, sym, ap, ◌∙◌, subst, arith, inl, inr, append_assoc, append-nil, length-append}
+use Rattle.std.proofs.Common.{◌≡◌, ℕ, Bool, true, false, cond, eqb, List, [], ◌∷◌, ◌++◌, length, map, Option, Some, is_some, IsSome, IfSome, Result, Ok, Err, OnOk, OnErr, IfErr, find, refl, sym, ap, ◌∙◌, subst, inl, inr, append_assoc, append-nil}
 use Rattle.std.specs.Option.{option_map}
 use Rattle.std.specs.List.{AllByRecursion, flat_map, range_with_len}
-use Rattle.std.proofs.lemmas.Bool.{true≢false, eqb-true, eq-eqb, ltb-false}
+use Rattle.std.proofs.lemmas.Bool.{true≢false, eqb-true, eq-eqb}
 use Rattle.dia_defs.specs.Rows.{Row}
-use Rattle.dia_defs.specs.Pieces.{pieces_from, lines_of, line_rows, line_row, line_feed}
+use Rattle.dia_defs.specs.Pieces.{line_rows}
 use Rattle.dia_defs.specs.Scripts.{LocalOp, Form, lines_form, generate_form, local_form, form_operands, line, Script, statement_at}
-use Rattle.dia_defs.specs.Lists.{Inputs, Lists, Block, missing, line_too_long, input_too_long, number_row, longest_input, block_of_input, block_of_long_line, long_line, rows_made}
+use Rattle.dia_defs.specs.Lists.{Inputs, Lists, Block, missing, line_too_long, input_too_long, number_row, block_of_input, rows_made}
 use Rattle.dia_defs.specs.Work.{Item, do_line, has_number, work_of}
 use Rattle.dia_defs.specs.Runs.{block_of_statement}
 use Rattle.dia_edge.specs.Shelves.{Holdings}
@@ -52,10 +52,6 @@ pub OnOk-both : {T E : Type 0} (r : Result T E) (P Q S : Type 0) → (P → Q �
 OnOk-both (Ok t) P Q S f p q = f p q
 OnOk-both (Err e) P Q S f p q = p
 
-pub mapped_length : {A B : Type 0} (f : A → B) (xs : List A) → length (map f xs) ≡ length xs
-mapped_length f [] = refl
-mapped_length f (x ∷ xs) = ap suc (mapped_length f xs)
-
 -- what is kept --------------------------------------------------------------------------------------------------------
 
 pub kept_lines : (kept : List Kept) (n : ℕ) (rows : List Row) → AllByRecursion AreLines kept → kept_at kept n ≡ Some rows → (bytes : List ℕ) × (rows ≡ line_rows bytes)
@@ -67,16 +63,14 @@ kept_lines (k ∷ kept) n rows all is =
     ] is
 
 pub kept_listed : (lists : Lists) (kept : List Kept) (n : ℕ) (rows : List Row) → AllByRecursion (IsListed lists) kept → kept_at kept n ≡ Some rows
-    → (lists n ≡ Some rows) × (length rows ≤ longest_input)
+    → lists n ≡ Some rows
 kept_listed lists [] n rows all is = let wrong : ⊥ = cc in absurd wrong
 kept_listed lists (k ∷ kept) n rows all is =
-    elim (eqb k.number n) as (λ t. eqb k.number n ≡ t → option_map (λ (x : Kept). x.rows) (cond t (Some k) (find (λ (x : Kept). eqb x.number n) kept)) ≡ Some rows
-    → (lists n ≡ Some rows) × (length rows ≤ longest_input)) [
+    elim (eqb k.number n) as (λ t. eqb k.number n ≡ t → option_map (λ (x : Kept). x.rows) (cond t (Some k) (find (λ (x : Kept). eqb x.number n) kept)) ≡ Some rows → lists n ≡ Some rows) [
       | true ↦ λ same e.
           let is_rows : k.rows ≡ rows = some_rows k.rows rows e in
           let At : ℕ → Type 0 = λ m. lists m ≡ Some k.rows in
-          let Short : List Row → Type 0 = λ rs. length rs ≤ longest_input in
-          (subst At (eqb-true k.number n same) all.0.0 ∙ ap Some is_rows, subst Short is_rows all.0.1)
+          subst At (eqb-true k.number n same) all.0 ∙ ap Some is_rows
       | false ↦ λ other e. kept_listed lists kept n rows all.1 e
     ] refl is
 
@@ -229,37 +223,11 @@ memory_stops script holds fixed items kept f is = λ taken.
 
 -- lines ---------------------------------------------------------------------------------------------------------------
 
-pieces_few : (separator : ℕ) (run bytes : List ℕ) → length (pieces_from separator run bytes) ≤ length run + length bytes
-unfolding pieces_from
-pieces_few separator [] [] = omega arith
-pieces_few separator (b ∷ run) [] = omega arith
-pieces_few separator run (b ∷ bytes) =
-    elim (eqb b separator) as (λ t. length (cond t (run ∷ pieces_from separator [] bytes) (pieces_from separator (run ++ b ∷ []) bytes)) ≤ length run + length (b ∷ bytes)) [
-      | true ↦ (let few = pieces_few separator [] bytes in omega (arith, few))
-      | false ↦ (let few = pieces_few separator (run ++ b ∷ []) bytes in let long = length-append run (b ∷ []) in omega (arith, few, long))
-    ]
-
-free_short : (o : Option ℕ) (bytes : List ℕ) → block_of_long_line o bytes ≡ None → length bytes ≤ longest_input
-free_short (Some n) bytes free = let wrong : ⊥ = cc in absurd wrong
-free_short None bytes free =
-    elim (ltb longest_input (length bytes)) as (λ t. ltb longest_input (length bytes) ≡ t → cond t (Some input_too_long) None ≡ None → length bytes ≤ longest_input) [
-      | true ↦ λ e f. (let wrong : ⊥ = cc in absurd wrong)
-      | false ↦ λ e f. ltb-false longest_input (length bytes) e
-    ] refl free
-
-short_rows : (rows : List Row) (held : Option (List ℕ)) → IsInput rows held → length rows ≤ longest_input
-short_rows rows held h =
-    let Free : Option (List ℕ) → Type 0 = λ o. block_of_input o ≡ None in
-    let short = free_short (long_line h.bytes) h.bytes (subst Free h.there h.free) in
-    let few = pieces_few line_feed [] h.bytes in
-    let same : length rows ≡ length (lines_of h.bytes) = ap length h.lines ∙ mapped_length line_row (lines_of h.bytes) in
-    omega (arith, short, few, same)
-
 still_listed : (lists : Lists) (n : ℕ) (rows : List Row) → is_some (lists n) ≡ false → (kept : List Kept) → AllByRecursion (IsListed lists) kept
     → AllByRecursion (IsListed (with_list lists n rows)) kept
 still_listed lists n rows none kept all =
     every_map (IsListed lists) (IsListed (with_list lists n rows))
-    (λ k h. (grows_with lists n rows none k.number (some_there (lists k.number) k.rows h.0) ∙ h.0, h.1)) kept all
+    (λ k h. grows_with lists n rows none k.number (some_there (lists k.number) k.rows h) ∙ h) kept all
 
 -- the lines of an input
 pub source_goes_on : (script : Script) (holds : Option Holdings) (fixed : Bool) (n : ℕ) (name input : List ℕ) (rows : List Row) (kept now : List Kept) (k : Kept)
@@ -273,9 +241,7 @@ source_goes_on script holds fixed n name input rows kept now k is told number sa
     let here : more n ≡ Some rows = rw (eq-eqb n n refl) refl in
     let At : ℕ → Type 0 = λ m. more m ≡ Some rows in
     let Listed : List Kept → Type 0 = λ xs. AllByRecursion (IsListed more) xs in
-    let short = short_rows rows (inputs input) h in
-    let long = ap length same in
-    let mine : IsListed more k = (subst At (sym number) here ∙ ap Some (sym same), omega (arith, short, long)) in
+    let mine : IsListed more k = subst At (sym number) here ∙ ap Some (sym same) in
     record {
       lists = more;
       run = g.0;

@@ -3,7 +3,7 @@ use Rattle.std.specs.Prelude.{◌≡◌, ◌⊎◌, ◌<◌, ◌≤◌, ℕ, Lis
 use Rattle.dia_defs.specs.declared.cause.Cause.{Cause}
 use Rattle.dia_defs.specs.Rows.{Row}
 use Rattle.dia_defs.specs.Scripts as scripts
-use Rattle.dia_defs.specs.Lists.{Inputs, missing, line_too_long, input_too_long, block_of_input, longest_input, most_rows}
+use Rattle.dia_defs.specs.Lists.{Inputs, missing, line_too_long, input_too_long, block_of_input, most_rows}
 use Rattle.dia_edge.specs.Counts.{HasRisen}
 use Rattle.dia_edge.specs.Sinks.{TookAll, TookFront}
 use Rattle.thrill_top.specs.Faults.{fault_line}
@@ -85,12 +85,12 @@ IsActionFault NoMemory = Unit {0}
 IsActionFault _ = ⊥
 
 -- why an action wasn't done whose text on these rows is this: there are too many, and nothing was taken; or a front of
--- the text was, of rows that aren't too many where those of the source may be; or there was no memory
-abbrev pub IsActFault : ℕ → ℕ → List Row → List ℕ → TopFault → Option (List ℕ) → Option (List ℕ) → Type 0
-IsActFault line source rows text (TooManyRows n) taken now = (n ≡ line) × (most_rows < length rows) × (now ≡ taken)
-IsActFault line source rows text (WriteFault count) taken now = (source ≤ longest_input → length rows ≤ most_rows) × TookFront taken text now
-IsActFault line source rows text NoMemory taken now = now ≡ taken
-IsActFault line source rows text _ taken now = ⊥
+-- the text was, of rows that aren't too many; or there was no memory
+abbrev pub IsActFault : ℕ → List Row → List ℕ → TopFault → Option (List ℕ) → Option (List ℕ) → Type 0
+IsActFault line rows text (TooManyRows n) taken now = (n ≡ line) × (most_rows < length rows) × (now ≡ taken)
+IsActFault line rows text (WriteFault count) taken now = (length rows ≤ most_rows) × TookFront taken text now
+IsActFault line rows text NoMemory taken now = now ≡ taken
+IsActFault line rows text _ taken now = ⊥
 
 -- a write failed, and the count is told
 abbrev pub IsWriteFault : TopFault → ℕ → ℕ → Type 0

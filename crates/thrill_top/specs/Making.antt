@@ -1,5 +1,5 @@
 -- How the lines of a script are made: from a line that names none, through local lines.
-use Rattle.std.specs.Prelude.{◌≡◌, ℕ, ◌==◌, ◌≤◌, Bool, List, [], ◌∷◌, ◌++◌, map, Some, find}
+use Rattle.std.specs.Prelude.{◌≡◌, ℕ, ◌==◌, Bool, List, [], ◌∷◌, ◌++◌, map, Some, find}
 use Rattle.std.specs.Borrow.{Bor}
 use Rattle.std.specs.List.{AllByRecursion}
 use Rattle.dia_defs.specs.declared.kind.Kind.{Kind}
@@ -7,7 +7,6 @@ use Rattle.dia_defs.specs.declared.kind.Kind.TheVariants.{Int, Text}
 use Rattle.dia_defs.specs.Scripts.{LocalOp, map_op, Form, lines_form, generate_form, local_form, action_operand, Statement, line, act, Numbered, Script, statement_at}
 use Rattle.dia_defs.specs.Reading.{Earlier, Known}
 use Rattle.dia_defs.specs.Sound.{IsSound, IsSoundAction, AreSoundOps}
-use Rattle.dia_defs.specs.Lists.{longest_input}
 use Rattle.run_laws.specs.Laws.{IsChain}
 use Rattle.script_read.specs.declared.statement.Form as forms
 use Rattle.script_read.specs.Statements.{form_in}
@@ -31,18 +30,12 @@ root_kinds (lines_form input) = Text ∷ []
 root_kinds (generate_form count) = Int ∷ []
 root_kinds (local_form of op) = []
 
--- so many numbers may be generated
-abbrev pub IsFew : Form → Type 0
-IsFew (generate_form count) = count ≤ longest_input
-IsFew _ = Unit {0}
-
 -- the chain leads from a line that names none to its line, and makes rows of these kinds
 pub record IsRooted (script : Script) (kinds : List Kind) (m : Made) : Type 0 where
   pub name : List ℕ
   pub form : Form
   pub root : statement_at script m.root ≡ Some (line name form)
   pub alone : IsRoot form
-  pub few : IsFew form
   pub chain : IsChain script m.root (ops_of m.ops.items) m.number
   pub makes : AreSoundOps (root_kinds form) (ops_of m.ops.items) kinds
 

@@ -1,5 +1,5 @@
 -- Where a run stands, and how each item goes on from there.
-use Rattle.std.specs.Prelude.{◌≡◌, ◌≤◌, ℕ, ◌==◌, Bool, true, List, ◌++◌, length, Option, Some, IsSome, find}
+use Rattle.std.specs.Prelude.{◌≡◌, ℕ, ◌==◌, Bool, true, List, ◌++◌, length, Option, Some, IsSome, find}
 use Rattle.std.specs.Option.{option_map}
 use Rattle.std.specs.List.{AllByRecursion, flat_map}
 use Rattle.dia_defs.specs.Rows.{Row}
@@ -8,7 +8,7 @@ use Rattle.dia_defs.specs.Scripts.{Form, lines_form, generate_form, local_form, 
 use Rattle.dia_defs.specs.Runs.{row_text, number_line, column_sum}
 use Rattle.row_feed.specs.declared.source.Source.{Source}
 use Rattle.row_feed.specs.declared.source.Source.TheVariants.{Lines, Numbers}
-use Rattle.dia_defs.specs.Lists.{Inputs, Lists, longest_input}
+use Rattle.dia_defs.specs.Lists.{Inputs, Lists}
 use Rattle.dia_defs.specs.Work.{Item, has_number}
 use Rattle.dia_edge.specs.Shelves.{Holdings}
 use Rattle.run_laws.specs.Order.{lines_among, InWork}
@@ -36,9 +36,9 @@ pub record IsMidway (script : Script) (items : List Item) (kept : List Kept) : T
   pub work : InWork script done (items ++ left)
   pub are : AreKept script done kept
 
--- what is kept for a line is its list, which isn't longer than an input may be
+-- what is kept for a line is its list
 abbrev pub IsListed : Lists → Kept → Type 0
-IsListed lists k = (lists k.number ≡ Some k.rows) × (length k.rows ≤ longest_input)
+IsListed lists k = lists k.number ≡ Some k.rows
 
 -- these items are a run, and since `out` had taken `start` it took their texts
 pub record IsAt (script : Script) (inputs : Inputs) (start : List ℕ) (done : List Item) (kept : List Kept) (taken : Option (List ℕ)) : Type 0 where

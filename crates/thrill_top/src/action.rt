@@ -2,7 +2,7 @@
 ghost use Rattle.std.specs.Prelude.{◌≡◌, ◌≤◌, ◌<◌, ◌++◌, true, false, ℕ, List, Some, slice_get, length, map, OnOk, OnErr, IfOk, IfErr};
 ghost use Rattle.dia_defs.specs.declared.kind.Kind.{Kind};
 ghost use Rattle.dia_defs.specs.declared.kind.Kind.TheVariants.{Int};
-ghost use Rattle.dia_defs.specs.Lists.{longest_input, most_rows};
+ghost use Rattle.dia_defs.specs.Lists.{most_rows};
 ghost use Rattle.dia_defs.specs.Runs.{number_line, column_sum};
 ghost use Rattle.dia_defs.specs.Sound.{AreSoundOps, IsSoundAction};
 ghost use Rattle.dia_edge.specs.Counts.{HasRisen};
@@ -20,7 +20,7 @@ use crate::fault::{TopFault, put_pieces};
 use dia_edge::{Failed, NoMemory, Sink};
 use dia_item::RowBuf;
 use lop_chain::{Chain, ScriptOp, copy_exprs};
-use row_feed::{Counter, MOST_TOLD, Source, Summer, feed, growth, print_all};
+use row_feed::{Counter, Source, Summer, feed, most_made, print_all};
 use script_read::{Action, Form};
 use std::alloc::Global;
 use std::sync::Wait;
@@ -125,8 +125,8 @@ fn put_number<S: Sink>(n: u64, out: &mut S) -> Result<(), TopFault>
     }
 }
 
-/// Whether no more rows arrive than may. They are counted where the lines may make more than 256 of one, since a source
-/// has at most 2^32.
+/// Whether no more rows arrive than may. They are counted only where the number of the source's rows and the lines don't
+/// show it.
 fn are_few<R: Wait>(
     rt: &R,
     alloc: Global,
@@ -135,11 +135,11 @@ fn are_few<R: Wait>(
 ) -> Result<bool, NoMemory>
     requires source { IsSource source.now }
     requires sound { (kinds : List Kind) × AreSoundOps (source_kinds source.now) (ops_of forms.now) kinds }
-    ensures few { IfOk result (λ few. few ≡ true → length (source_rows source.now) ≤ longest_input → length (rows_from (ops_of forms.now) (source_rows source.now)) ≤ most_rows) }
+    ensures few { IfOk result (λ few. few ≡ true → length (rows_from (ops_of forms.now) (source_rows source.now)) ≤ most_rows) }
     ensures many { IfOk result (λ few. few ≡ false → most_rows < length (rows_from (ops_of forms.now) (source_rows source.now))) }
 {
     let ops = ops_of(alloc, forms)?;
-    if growth(ops.as_slice()) <= MOST_TOLD {
+    if most_made(source, ops.as_slice()) <= MOST_ROWS {
         return Ok(true);
     }
     let rows = count(rt, alloc, source, forms)?;
@@ -192,8 +192,8 @@ fn print<R: Wait, S: Sink>(
     requires source { IsSource source.now }
     requires sound { (kinds : List Kind) × AreSoundOps (source_kinds source.now) (ops_of forms.now) kinds }
     ensures ok { OnOk result (TookAll (S.taken out.old) (texts_of_rows (rows_from (ops_of forms.now) (source_rows source.now))) (S.taken out.new)) }
-    ensures few { OnOk result (length (source_rows source.now) ≤ longest_input → length (rows_from (ops_of forms.now) (source_rows source.now)) ≤ most_rows) }
-    ensures refused { IfErr result (λ f. IsActFault line (length (source_rows source.now)) (rows_from (ops_of forms.now) (source_rows source.now))
+    ensures few { OnOk result (length (rows_from (ops_of forms.now) (source_rows source.now)) ≤ most_rows) }
+    ensures refused { IfErr result (λ f. IsActFault line (rows_from (ops_of forms.now) (source_rows source.now))
         (texts_of_rows (rows_from (ops_of forms.now) (source_rows source.now))) f (S.taken out.old) (S.taken out.new)) }
     ensures fault { IfErr result (λ f. IsOutFault f (S.faults out.old) (S.faults out.new)) }
     ensures counts { S.faults out.old ≤ S.faults out.new }
@@ -232,8 +232,8 @@ pub(crate) fn act<R: Wait, S: Sink>(
     requires source { IsSource source.now }
     requires sound { (kinds : List Kind) × AreSoundOps (source_kinds source.now) (ops_of forms.now) kinds × IsSoundAction kinds (action_in action.now) }
     ensures ok { OnOk result (TookAll (S.taken out.old) (text_of_rows (action_in action.now) (rows_from (ops_of forms.now) (source_rows source.now))) (S.taken out.new)) }
-    ensures few { OnOk result (length (source_rows source.now) ≤ longest_input → length (rows_from (ops_of forms.now) (source_rows source.now)) ≤ most_rows) }
-    ensures refused { IfErr result (λ f. IsActFault line (length (source_rows source.now)) (rows_from (ops_of forms.now) (source_rows source.now))
+    ensures few { OnOk result (length (rows_from (ops_of forms.now) (source_rows source.now)) ≤ most_rows) }
+    ensures refused { IfErr result (λ f. IsActFault line (rows_from (ops_of forms.now) (source_rows source.now))
         (text_of_rows (action_in action.now) (rows_from (ops_of forms.now) (source_rows source.now))) f (S.taken out.old) (S.taken out.new)) }
     ensures fault { IfErr result (λ f. IsOutFault f (S.faults out.old) (S.faults out.new)) }
     ensures counts { S.faults out.old ≤ S.faults out.new }

@@ -1,0 +1,18 @@
+use Rattle.std.proofs.Common.{arith, sym, subst}
+use Rattle.std.specs.List.{range_with_len, AllByRecursion}
+use Rattle.dia_defs.specs.Lists.{number_row}
+use Rattle.row_feed.specs.Growth.{AreShort}
+use Rattle.row_feed.specs.Sources.{source_rows}
+use Rattle.row_feed.specs.declared.source.Source.{Source}
+use Rattle.row_feed.proofs.FeedLemmas.{numbers_long, mapped_long}
+use Rattle.row_feed.proofs.GrowthLemmas.{numbers_short}
+use Rattle.row_feed.proofs.growing.row_count.Goals as goal
+
+pub returns-in-Numbers-clause-len : goal.returns-in-Numbers-clause-len
+returns-in-Numbers-clause-len c =
+    rw c.in-Numbers.is (omega (arith, mapped_long number_row (range_with_len 0 c.in-Numbers.count), numbers_long 0 c.in-Numbers.count))
+
+pub returns-in-Numbers-clause-short : goal.returns-in-Numbers-clause-short
+returns-in-Numbers-clause-short c =
+    let Short : Source → Type 0 = λ s. AllByRecursion AreShort (source_rows s) in
+    subst Short (sym c.in-Numbers.is) (numbers_short (range_with_len 0 c.in-Numbers.count))

@@ -1,0 +1,26 @@
+-- How many rows local lines make of one row, at most.
+use Rattle.std.specs.Prelude.{ℕ, ◌*◌, ◌-◌, ◌^◌, ◌≤◌, Bool, true, false, List, [], ◌∷◌, length, ⊤}
+use Rattle.std.specs.List.{AllByRecursion}
+use Rattle.dia_defs.specs.Rows.{Cell, int, text, Row, longest_text}
+use Rattle.dia_defs.specs.Scripts.{LocalOp, map_op, filter_op, words_op, spread_op}
+
+-- a cell whose text, if it is one, is no longer than a text may be
+abbrev pub IsShort : Cell → Type 0
+IsShort (int n) = ⊤
+IsShort (text t) = length t ≤ longest_text
+
+abbrev pub AreShort : Row → Type 0
+AreShort row = AllByRecursion IsShort row
+
+-- so many words a text has at most; nothing is told of a text that is not known to be short
+abbrev pub most_words : Bool → ℕ
+most_words true = 32768
+most_words false = 2 ^ 64 - 1
+
+-- so many rows the lines make of one row at most, where the row is known to be short or not
+abbrev pub growth : Bool → List LocalOp → ℕ
+growth known [] = 1
+growth known (map_op exprs ∷ ops) = growth false ops
+growth known (filter_op e ∷ ops) = growth known ops
+growth known (words_op c ∷ ops) = growth known ops * most_words known
+growth known (spread_op c count ∷ ops) = growth known ops * count
