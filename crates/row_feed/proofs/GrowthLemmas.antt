@@ -1,17 +1,18 @@
 -- How many rows local lines make of one row, at most.
-use Rattle.std.proofs.Common.{◌≡◌, ℕ, zero, suc, ◌+◌, ◌-◌, ◌*◌, ◌<◌, ◌≤◌, ◌^◌, ◌==◌, min, Bool, true, false, if◌then◌else◌, List, [], ◌∷◌, ◌++◌, length, map, slice_set, slice_index_or, refl, sym, ap, subst, ◌∙◌, arith, length-append, suc-mul, mul-suc, mul_comm}
-use Rattle.std.proofs.lemmas.Bool.{ltb-true, ltb-false}
+use Rattle.std.proofs.Common.{◌≡◌, ℕ, zero, suc, ◌+◌, ◌-◌, ◌*◌, ◌<◌, ◌≤◌, ◌^◌, ◌==◌, min, Bool, true, false, ◌&&◌, if◌then◌else◌, List, [], ◌∷◌, ◌++◌, length, map, slice_set, slice_index_or, refl, sym, ap, subst, ◌∙◌, arith, length-append, length-take, suc-mul, mul-suc, mul_comm}
+use Rattle.std.proofs.lemmas.Bool.{ltb-true, ltb-false, leb-true, and_parts}
 use Rattle.std.proofs.Math.Dec.{ltb}
 use Rattle.std.proofs.Math.Nat.{mul-le-mul_right}
-use Rattle.std.specs.List.{range_with_len, flat_map, AllByRecursion}
+use Rattle.std.specs.List.{range_with_len, flat_map, AllByRecursion, list_all}
+use Rattle.std.proofs.lemmas.List.{length-drop}
 use Rattle.dia_defs.specs.Rows.{Cell, int, text, Row, Fits, longest_text}
 use Rattle.dia_defs.specs.Texts.{is_blank, ended_word, words_after, words_in_text}
-use Rattle.dia_defs.specs.Values.{column, number_in, bytes_in, value_of}
+use Rattle.dia_defs.specs.Values.{Expr, column, number, literal, math, is_zero, compare, choose, len, num, spelled, part, Part, front, back, nth_word, number_in, bytes_in, value_of, part_of}
 use Rattle.dia_defs.specs.Scripts.{LocalOp, map_op, filter_op, words_op, spread_op}
 use Rattle.dia_defs.specs.Lists.{number_row, raised, with_word, rows_through}
 use Rattle.dia_lines.specs.Fitting.{AllFit}
 use Rattle.lop_chain.specs.Ops.{rows_from}
-use Rattle.row_feed.specs.Growth.{IsShort, AreShort, growth}
+use Rattle.row_feed.specs.Growth.{IsShort, AreShort, is_plain, growth}
 use Rattle.row_feed.proofs.FeedLemmas.{numbers_long, mapped_long}
 
 -- short rows ----------------------------------------------------------------------------------------------------------
@@ -41,10 +42,13 @@ cell_short : (cell : Cell) → IsShort cell → length (bytes_in cell) ≤ longe
 cell_short (int n) h = omega arith
 cell_short (text t) h = h
 
+all_at : {A : Type 0} (P : A → Type 0) (xs : List A) (i : ℕ) (d : A) → AllByRecursion P xs → P d → P (slice_index_or xs i d)
+all_at P [] i d h k = k
+all_at P (x ∷ xs) zero d h k = h.0
+all_at P (x ∷ xs) (suc i) d h k = all_at P xs i d h.1 k
+
 column_short : (row : Row) (c : ℕ) → AreShort row → length (bytes_in (slice_index_or row c (int 0))) ≤ longest_text
-column_short [] c h = omega arith
-column_short (x ∷ row) zero h = cell_short x h.0
-column_short (x ∷ row) (suc c) h = column_short row c h.1
+column_short row c h = cell_short (slice_index_or row c (int 0)) (all_at IsShort row c (int 0) h tt)
 
 -- words ---------------------------------------------------------------------------------------------------------------
 
@@ -102,6 +106,40 @@ words_short n run (b ∷ bytes) h =
     let going_on = words_short n (run ++ b ∷ []) bytes (omega (arith, h, length-append run (b ∷ []))) in
     subst P (sym (words_next run b bytes)) (all_if Short (is_blank b) (ended_word run ++ words_after [] bytes) (words_after (run ++ b ∷ []) bytes) at_end going_on)
 
+-- values --------------------------------------------------------------------------------------------------------------
+
+part_short : (op : Part) (n : ℕ) (bytes : List ℕ) → length bytes ≤ longest_text → length (part_of op n bytes) ≤ longest_text
+part_short front n bytes h = omega (arith, length-take n bytes, h)
+part_short back n bytes h = omega (arith, length-drop n bytes, h)
+part_short nth_word n bytes h =
+    all_at (λ (w : List ℕ). length w ≤ longest_text) (words_in_text bytes) n [] (words_short longest_text [] bytes (omega (arith, h))) (omega arith)
+
+short_if : (b : Bool) (x y : Cell) → IsShort x → IsShort y → IsShort (if b then x else y)
+short_if true x y p q = p
+short_if false x y p q = q
+
+plain_short : (e : Expr) (row : Row) → AreShort row → is_plain e ≡ true → IsShort (value_of e row)
+plain_short (column i) row h p = all_at IsShort row i (int 0) h tt
+plain_short (number n) row h p = tt
+plain_short (literal t) row h p = leb-true (length t) longest_text p
+plain_short (math op a b) row h p = tt
+plain_short (is_zero a) row h p = tt
+plain_short (compare op x y) row h p = tt
+plain_short (choose c x y) row h p =
+    let both = and_parts (is_plain x) (is_plain y) p in
+    short_if (number_in (value_of c row) == 0) (value_of y row) (value_of x row) (plain_short y row h both.1) (plain_short x row h both.0)
+plain_short (len t) row h p = tt
+plain_short (num t) row h p = tt
+plain_short (spelled a) row h p = absurd cc
+plain_short (part op a t) row h p =
+    part_short op (number_in (value_of a row)) (bytes_in (value_of t row)) (cell_short (value_of t row) (plain_short t row h p))
+
+values_short : (exprs : List Expr) (row : Row) → AreShort row → list_all is_plain exprs ≡ true → AreShort (map (λ e. value_of e row) exprs)
+values_short [] row h p = tt
+values_short (e ∷ exprs) row h p =
+    let both = and_parts (is_plain e) (list_all is_plain exprs) p in
+    (plain_short e row h both.0, values_short exprs row h both.1)
+
 -- rows that are known to be short, or of which nothing is known
 abbrev Known : Bool → Row → Type 0
 Known known row = known ≡ true → AreShort row
@@ -134,7 +172,10 @@ made_few : (ops : List LocalOp) (known : Bool) (row : Row) → Known known row �
 made_few [] known row h small = omega arith
 made_few (map_op exprs ∷ ops) known row h small =
     let made = map (λ e. value_of e row) exprs in
-    one_passes false (rows_through ops) made (growth false ops) (made_few ops false made (λ e. absurd cc) small)
+    let still = known && list_all is_plain exprs in
+    one_passes false (rows_through ops) made (growth still ops) (made_few ops still made (λ t.
+    let both = and_parts known (list_all is_plain exprs) t in
+    values_short exprs row (h both.0) both.1) small)
 made_few (filter_op e ∷ ops) known row h small =
     one_passes (number_in (value_of e row) == 0) (rows_through ops) row (growth known ops) (made_few ops known row h small)
 made_few (words_op c ∷ ops) true row h small =

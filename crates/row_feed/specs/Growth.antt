@@ -1,6 +1,7 @@
 -- How many rows local lines make of one row, at most.
-use Rattle.std.specs.Prelude.{ℕ, ◌*◌, ◌-◌, ◌^◌, ◌≤◌, Bool, true, false, List, [], ◌∷◌, length, ⊤}
-use Rattle.std.specs.List.{AllByRecursion}
+use Rattle.std.specs.Prelude.{ℕ, ◌*◌, ◌-◌, ◌^◌, ◌≤◌, nat_le, Bool, true, false, ◌&&◌, List, [], ◌∷◌, length, ⊤}
+use Rattle.std.specs.List.{AllByRecursion, list_all}
+use Rattle.dia_defs.specs.Values.{Expr, literal, choose, spelled, part}
 use Rattle.dia_defs.specs.Rows.{Cell, int, text, Row, longest_text}
 use Rattle.dia_defs.specs.Scripts.{LocalOp, map_op, filter_op, words_op, spread_op}
 
@@ -17,10 +18,18 @@ abbrev pub most_words : Bool → ℕ
 most_words true = 32768
 most_words false = 2 ^ 64 - 1
 
+-- of a short row its value is short: it is a number, or a text of the row or of the expression, or a part of one
+abbrev pub is_plain : Expr → Bool
+is_plain (literal t) = nat_le (length t) longest_text
+is_plain (spelled a) = false
+is_plain (choose c x y) = is_plain x && is_plain y
+is_plain (part op a t) = is_plain t
+is_plain _ = true
+
 -- so many rows the lines make of one row at most, where the row is known to be short or not
 abbrev pub growth : Bool → List LocalOp → ℕ
 growth known [] = 1
-growth known (map_op exprs ∷ ops) = growth false ops
+growth known (map_op exprs ∷ ops) = growth (known && list_all is_plain exprs) ops
 growth known (filter_op e ∷ ops) = growth known ops
 growth known (words_op c ∷ ops) = growth known ops * most_words known
 growth known (spread_op c count ∷ ops) = growth known ops * count

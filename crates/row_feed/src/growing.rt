@@ -1,11 +1,14 @@
 //! How many rows a chain makes of a source's.
 ghost use Rattle.std.specs.Prelude.{◌≡◌, ◌≤◌, ◌<◌, ◌-◌, ◌*◌, ◌^◌, true, length, min};
-ghost use Rattle.std.specs.List.{AllByRecursion};
-ghost use Rattle.lop_chain.specs.Ops.{ops_in, rows_from};
-ghost use Rattle.row_feed.specs.Growth.{AreShort, growth, most_words};
+ghost use Rattle.std.specs.List.{AllByRecursion, list_all};
+ghost use Rattle.dia_expr.specs.Exprs.{expr_in};
+ghost use Rattle.lop_chain.specs.Ops.{exprs_in, ops_in, rows_from};
+ghost use Rattle.row_feed.specs.Growth.{AreShort, growth, is_plain, most_words};
 ghost use Rattle.row_feed.specs.Sources.{source_rows};
 
 use crate::source::Source;
+use dia_expr::Expr;
+use dia_item::LONGEST_TEXT;
 use lop_chain::ScriptOp;
 
 /// How many rows a source has, or `u64::MAX` where it has more.
@@ -26,8 +29,31 @@ fn most_words(known: bool) -> u64
     if known { 32_768 } else { u64::MAX }
 }
 
-/// How many rows lines, one after the other, make of one row at most, or `u64::MAX` where they may make more. Whether
-/// the row's texts are known to be short: behind a map nothing is known.
+/// Whether the value is a number, or a text of the row or of the expression, or a part of one, and so is no longer than a
+/// text may be where the row's texts aren't.
+fn is_plain(expr: &Expr) -> bool
+    ensures { result ≡ is_plain (expr_in expr.now) }
+{
+    match expr {
+        Expr::Literal(t) => t.bytes().len() <= LONGEST_TEXT,
+        Expr::Text(_) => false,
+        Expr::If(_, x, y) => is_plain(x) && is_plain(y),
+        Expr::Part(_, _, t) => is_plain(t),
+        _ => true,
+    }
+}
+
+fn are_plain(exprs: &[Expr]) -> bool
+    ensures { result ≡ list_all is_plain (exprs_in exprs.now) }
+{
+    match exprs.split_first() {
+        None => true,
+        Some((expr, rest)) => is_plain(expr) && are_plain(rest),
+    }
+}
+
+/// How many rows lines, one after the other, make of one row at most, or `u64::MAX` where they may make more. `known` is
+/// whether the row's texts are known to be no longer than a text may be.
 fn growth(ops: &[ScriptOp], known: bool) -> u64
     ensures { result ≡ min (growth known (ops_in ops.now)) (2 ^ 64 - 1) }
 {
@@ -35,7 +61,7 @@ fn growth(ops: &[ScriptOp], known: bool) -> u64
         return 1;
     };
     match op {
-        ScriptOp::Map(_) => growth(rest, false),
+        ScriptOp::Map(exprs) => growth(rest, known && are_plain(exprs.as_slice())),
         ScriptOp::Filter(_) => growth(rest, known),
         ScriptOp::Words { .. } => growth(rest, known).saturating_mul(most_words(known)),
         ScriptOp::Spread { count, .. } => growth(rest, known).saturating_mul(u64::from(*count)),
