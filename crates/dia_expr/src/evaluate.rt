@@ -42,7 +42,7 @@ fn kind_in_both(x: &Expr, y: &Expr, row: &RowRef<'_>) -> Kind
 }
 
 /// A column of kind Int.
-#[inline]
+#[inline(always)]
 fn int_column(row: &RowRef<'_>, i: u32) -> u64
     requires { slice_get (kinds_of (row_in_ref row.now)) i ≡ Some Int }
     ensures { slice_index_or (row_in_ref row.now) i (int 0) ≡ int result }
@@ -54,7 +54,7 @@ fn int_column(row: &RowRef<'_>, i: u32) -> u64
 }
 
 /// A column of kind Text.
-#[inline]
+#[inline(always)]
 fn text_column<'a>(row: &RowRef<'a>, i: u32) -> &'a [u8]
     requires { slice_get (kinds_of (row_in_ref row.now)) i ≡ Some Text }
     ensures value { slice_index_or (row_in_ref row.now) i (int 0) ≡ text result.now }
