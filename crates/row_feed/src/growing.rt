@@ -68,8 +68,8 @@ fn growth(ops: &[ScriptOp], known: bool) -> u64
     }
 }
 
-/// How many rows a chain of these lines makes of a source's at most: as many as there are times those that are made of
-/// one. `u64::MAX` says nothing.
+/// The most rows that a chain of these lines can make of a source's: the number of the source's rows times the most that
+/// the lines make of one. `u64::MAX` says nothing.
 pub fn most_made(source: &Source<'_>, ops: &[ScriptOp]) -> u64
     ensures value { result ≡ min (length (source_rows source.now) * growth true (ops_in ops.now)) (2 ^ 64 - 1) }
     ensures most { result < 2 ^ 64 - 1 → length (rows_from (ops_in ops.now) (source_rows source.now)) ≤ result }

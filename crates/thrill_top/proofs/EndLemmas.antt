@@ -58,27 +58,27 @@ bytes_source (faults.WriteFault count) kind = absurd kind
 bytes_source (faults.TooManyRows n) kind = absurd kind
 
 -- a fault of printing
-pub print_run : (f : TopFault) (a b c d : ℕ) → IsActionFault f → IsOutFault f c d → IsRunFault f a b c d
-print_run (faults.WriteFault count) a b c d kind h = record { shelf = tt; out = h; usage = tt }
-print_run faults.NoMemory a b c d kind h = record { shelf = tt; out = tt; usage = tt }
-print_run (faults.TooManyRows n) a b c d kind h = record { shelf = tt; out = tt; usage = tt }
-print_run faults.Usage a b c d kind h = absurd kind
-print_run (faults.Script n cause) a b c d kind h = absurd kind
-print_run (faults.Missing name) a b c d kind h = absurd kind
-print_run (faults.LineTooLong name n) a b c d kind h = absurd kind
-print_run (faults.InputTooLong name) a b c d kind h = absurd kind
-print_run (faults.ReadFault count) a b c d kind h = absurd kind
+pub act_run : (f : TopFault) (a b c d : ℕ) → IsActionFault f → IsOutFault f c d → IsRunFault f a b c d
+act_run (faults.WriteFault count) a b c d kind h = record { shelf = tt; out = h; usage = tt }
+act_run faults.NoMemory a b c d kind h = record { shelf = tt; out = tt; usage = tt }
+act_run (faults.TooManyRows n) a b c d kind h = record { shelf = tt; out = tt; usage = tt }
+act_run faults.Usage a b c d kind h = absurd kind
+act_run (faults.Script n cause) a b c d kind h = absurd kind
+act_run (faults.Missing name) a b c d kind h = absurd kind
+act_run (faults.LineTooLong name n) a b c d kind h = absurd kind
+act_run (faults.InputTooLong name) a b c d kind h = absurd kind
+act_run (faults.ReadFault count) a b c d kind h = absurd kind
 
-pub print_work : (f : TopFault) → IsActionFault f → IsWorkFault f
-print_work (faults.WriteFault count) kind = tt
-print_work faults.NoMemory kind = tt
-print_work (faults.TooManyRows n) kind = tt
-print_work faults.Usage kind = absurd kind
-print_work (faults.Script n cause) kind = absurd kind
-print_work (faults.Missing name) kind = absurd kind
-print_work (faults.LineTooLong name n) kind = absurd kind
-print_work (faults.InputTooLong name) kind = absurd kind
-print_work (faults.ReadFault count) kind = absurd kind
+pub act_work : (f : TopFault) → IsActionFault f → IsWorkFault f
+act_work (faults.WriteFault count) kind = tt
+act_work faults.NoMemory kind = tt
+act_work (faults.TooManyRows n) kind = tt
+act_work faults.Usage kind = absurd kind
+act_work (faults.Script n cause) kind = absurd kind
+act_work (faults.Missing name) kind = absurd kind
+act_work (faults.LineTooLong name n) kind = absurd kind
+act_work (faults.InputTooLong name) kind = absurd kind
+act_work (faults.ReadFault count) kind = absurd kind
 
 pub script_run : (f : TopFault) (a b c d : ℕ) → IsScriptFault f → IsRunFault f a b c d
 script_run (faults.Script n cause) a b c d kind = record { shelf = tt; out = tt; usage = tt }
