@@ -1,5 +1,5 @@
 //! Pools over disks in memory, used by one hand and by four threads at once: what no clause says of them.
-ghost use Rattle.std.specs.Prelude.{◌≡◌, ℕ, ◌+◌, ◌*◌, ◌/◌, ◌^◌, ◌<◌, ◌≤◌, All, IfOk, IfSome, vec_len, vec_capacity};
+ghost use Rattle.std.specs.Prelude.{◌≡◌, ℕ, ◌+◌, ◌*◌, ◌/◌, ◌^◌, ◌<◌, ◌≤◌, [], All, IfOk, IfSome, vec_len, vec_capacity};
 ghost use Rattle.block_pool.specs.Handles.{AreOfPool};
 ghost use Rattle.block_pool.specs.Workers.{AreJobs, IsJob, IsReady, new_pool, pool_of_four};
 
@@ -53,7 +53,7 @@ fn open_one(
 /// Ends a pool with one of its passes.
 fn end<R: Wait>(rt: &R, pool: Pool<MemDisk>, pass: Pass, passes: Vec<Pass>) -> MemDisk
     requires own { pass.pool.turn ≡ pool }
-    requires room { (vec_len passes ≡ 0) × (0 < vec_capacity passes) }
+    requires room { (passes.items ≡ []) × (0 < vec_capacity passes) }
 {
     let mut passes = passes;
     passes.push_reserved(pass);

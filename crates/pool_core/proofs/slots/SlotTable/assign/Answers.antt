@@ -1,4 +1,4 @@
-use Rattle.std.proofs.Common.{◌≡◌, ◌<◌, ◌≤◌, ◌+◌, length, Some, None, ap, ◌∙◌, subst, sym, arith}
+use Rattle.std.proofs.Common.{◌≡◌, ◌<◌, length, None, ap, ◌∙◌, arith}
 use Rattle.pool_core.specs.Slots.{Assigned, slot_of}
 use Rattle.pool_core.proofs.Slotting.{assigned}
 use Rattle.pool_core.proofs.slots.SlotTable.assign.Goals as goal

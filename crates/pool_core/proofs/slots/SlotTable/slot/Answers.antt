@@ -1,5 +1,4 @@
 use Rattle.std.proofs.Common.{◌≡◌, ◌<◌, ◌∙◌, ℕ, length, Some, None, ap, sym, arith}
-use Rattle.std.specs.Option.{IfSome}
 use Rattle.std.proofs.lemmas.List.{get_or_default}
 use Rattle.pool_core.specs.Slots.{Assigned, slot_of}
 use Rattle.pool_core.proofs.Slotting.{if_slot}

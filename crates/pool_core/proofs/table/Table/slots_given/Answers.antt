@@ -1,4 +1,4 @@
-use Rattle.std.proofs.Common.{◌≤◌, subst, arith, ap}
+use Rattle.std.proofs.Common.{◌≤◌, subst, arith}
 use Rattle.pool_defs.specs.Pool.{slots_in_use}
 use Rattle.pool_core.specs.Tables.{Held, machine_of}
 use Rattle.pool_core.proofs.Slotting.{used_within}
