@@ -1,5 +1,5 @@
 #!/usr/bin/env bash
-# Runs ten thousand phases of four empty tasks on threads, beside scoped threads of plain Rust. Wanted: at most twice
+# Runs a thousand phases of four empty tasks on threads, beside scoped threads of plain Rust. Wanted: at most twice
 # their time.
 #
 # usage: bench/workers.sh

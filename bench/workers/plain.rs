@@ -1,10 +1,10 @@
-//! Ten thousand phases of four empty tasks by scoped threads: three threads, and the caller does a task itself.
+//! A thousand phases of four empty tasks by scoped threads: three threads, and the caller does a task itself.
 //! Written: microseconds of all, then how many steps were made.
 use std::hint::black_box;
 use std::thread;
 use std::time::Instant;
 
-const PHASES: u32 = 10_000;
+const PHASES: u32 = 1_000;
 
 struct Empty {
     steps: u64,
