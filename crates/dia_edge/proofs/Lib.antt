@@ -1,2 +1,5 @@
+pub mod CountLemmas
 pub mod FileLemmas
+pub mod ShelfLemmas
+pub mod SinkLemmas
 pub mod SlotLemmas

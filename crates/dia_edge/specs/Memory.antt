@@ -12,11 +12,12 @@ abbrev pub collected : Collected → List ℕ → Bool → Collected
 collected sink piece well =
     record { taken = (if well then sink.taken ++ piece else sink.taken); plan = called sink.plan well }
 
--- a shelf in memory: what it holds, what is left of the opened file, how many bytes a read gives at most, and the
--- calls that are to fail
+-- a shelf in memory: what it holds, what is left of the opened file, the names that were asked for, how many bytes a
+-- read gives at most, and the calls that are to fail
 pub record Shelved : Type 0 where
   pub files : List (List ℕ × List ℕ)
   pub left : List ℕ
+  pub asked : List (List ℕ)
   pub step : ℕ
   pub plan : Plan
 

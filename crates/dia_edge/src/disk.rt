@@ -24,7 +24,7 @@ pub trait Disk: Drop {
         ensures counts { faults self.old ≤ faults self.new }
         ensures tells { is_some (slots self.new) ≡ is_some (slots self.old) };
 
-    /// Fills `into` with the front of the slot's bytes. It changes no slot, whatever it answers.
+    /// Fills `into` with a prefix of the slot's bytes. It changes no slot, whatever it answers.
     fn read(&mut self, slot: u64, into: &mut [u8]) -> Result<(), Failed>
         requires within { CanFill (slots self.old) slot (length into.old) }
         ensures ok { OnOk result (IsFilled (slots self.old) slot into.new) }

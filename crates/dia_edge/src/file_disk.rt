@@ -1,5 +1,5 @@
 //! A file as a disk.
-ghost use Rattle.std.specs.Prelude.{◌≡◌, ◌≤◌, None, IsErr, OnOk, OnErr, length};
+ghost use Rattle.std.specs.Prelude.{◌≡◌, ◌<◌, ◌≤◌, ◌*◌, ◌^◌, None, IsErr, IfOk, OnOk, OnErr, length};
 ghost use Rattle.dia_edge.specs.Counts.{HasRisen, raised};
 ghost use Rattle.dia_edge.specs.Slots.{IsBeyond};
 
@@ -85,6 +85,8 @@ where
         ensures rose { OnErr result (HasRisen (⟦<FileDisk<R> as Disk>⟧.faults self.old) (⟦<FileDisk<R> as Disk>⟧.faults self.new)) }
         ensures counts { ⟦<FileDisk<R> as Disk>⟧.faults self.old ≤ ⟦<FileDisk<R> as Disk>⟧.faults self.new }
         ensures beyond { IsBeyond slot (length into.old) → IsErr result }
+        // Before the file is made every slot ends at once.
+        ensures unmade { self.old.file ≡ None → 0 < length into.old → IsErr result }
     {
         match read_slot(&self.file, slot, into) {
             Ok(()) => Ok(()),
@@ -111,7 +113,9 @@ fn make<R: Files>(rt: &R, path: &str) -> io::Result<R::File> {
 
 /// Where the slot stands in the file, if so many bytes have room there.
 fn offset_of(slot: u64, count: usize) -> io::Result<u64>
-    ensures { IsBeyond slot count → IsErr result }
+    ensures beyond { IsBeyond slot count → IsErr result }
+    ensures inside { IsErr result → IsBeyond slot count }
+    ensures place { IfOk result (λ offset. offset ≡ slot * 2 ^ 20) }
 {
     if slot >= SLOT_END || count as u64 > SLOT_BYTES {
         return Err(io::Error::from(ErrorKind::InvalidInput));
@@ -141,9 +145,10 @@ where
     written
 }
 
-/// Reads the front of the slot.
+/// Reads a prefix of the slot.
 fn read_slot<F: FileExt>(file: &Option<F>, slot: u64, into: &mut [u8]) -> io::Result<()>
-    ensures { IsBeyond slot (length into.old) → IsErr result }
+    ensures beyond { IsBeyond slot (length into.old) → IsErr result }
+    ensures unmade { file.now ≡ None → 0 < length into.old → IsErr result }
 {
     let offset = offset_of(slot, into.len())?;
     match file {

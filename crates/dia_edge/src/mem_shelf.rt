@@ -1,13 +1,13 @@
 //! A shelf in memory.
-ghost use Rattle.std.specs.Prelude.{◌≡◌, ◌+◌, ◌^◌, ◌<◌, ◌≤◌, Some, None, [], true, not, min, length, take, drop, is_ok, MatchOption, MatchBool, OnErr, IfOk};
+ghost use Rattle.std.specs.Prelude.{◌≡◌, ◌+◌, ◌^◌, ◌<◌, ◌≤◌, Some, None, [], ◌∷◌, ◌++◌, true, false, not, min, length, take, drop, is_ok, MatchOption, MatchBool, OnOk, OnErr, IfOk};
 ghost use Rattle.dia_edge.specs.Counts.{HasRisen};
 ghost use Rattle.dia_edge.specs.Files.{files_of, held_under, bytes_at};
 ghost use Rattle.dia_edge.specs.Plans.{fresh, is_next_planned, called};
-ghost use Rattle.dia_edge.specs.Shelves.{IsOpened, IsAbsent, IsShut, GivesFront, IsAtEnd};
+ghost use Rattle.dia_edge.specs.Shelves.{IsOpened, IsAbsent, IsShut, GivesPrefix, IsAtEnd, and_asked};
 
 use crate::name::Name;
 use crate::plan::FaultPlan;
-use crate::refusals::Failed;
+use crate::refusals::{Failed, NoMemory};
 use crate::shelf::Shelf;
 use std::marker::Model;
 
@@ -19,6 +19,8 @@ pub struct MemShelf {
     place: usize,
     // How many bytes of it were read.
     from: usize,
+    // The names that `open` answered.
+    asked: Vec<Name>,
     step: usize,
     plan: FaultPlan,
 }
@@ -33,6 +35,7 @@ impl Model for MemShelf {
     ghost view = { λ shelf. record {
       files = files_of shelf.files.items;
       left = drop shelf.from (bytes_at shelf.files.items shelf.place);
+      asked = shelf.asked.items;
       step = shelf.step;
       plan = shelf.plan;
     } };
@@ -44,23 +47,34 @@ impl MemShelf {
     /// A shelf with these files, of which none is open. Of files with the same name the first counts.
     ///
     /// Each read gives at most `step` bytes. The calls that are numbered in `fail` fail, from 1; opens and reads
-    /// share one numbering.
+    /// share one numbering. An open for whose name there is no memory fails too.
     pub fn new(files: Vec<(Name, Vec<u8>)>, step: usize, fail: Vec<u64>) -> MemShelf
         requires { 0 < step }
-        ensures whole { result ≡ record { files = files_of files.items; left = []; step = step; plan = fresh fail.items } }
+        ensures whole { result ≡ record { files = files_of files.items; left = []; asked = []; step = step; plan = fresh fail.items } }
         ensures holds { ⟦<MemShelf as Shelf>⟧.holds result ≡ Some (held_under (files_of files.items)) }
         ensures left { ⟦<MemShelf as Shelf>⟧.left result ≡ Some [] }
+        ensures asked { ⟦<MemShelf as Shelf>⟧.asked result ≡ Some [] }
         ensures fixed { ⟦<MemShelf as Shelf>⟧.is_fixed result ≡ true }
         ensures faults { ⟦<MemShelf as Shelf>⟧.faults result ≡ 0 }
     {
         let place = files.len();
+        let asked = Vec::new(*files.allocator());
         MemShelf {
             files,
             place,
             from: 0,
+            asked,
             step,
             plan: FaultPlan::new(fail),
         }
+    }
+
+    /// The names that `open` answered so far, in order.
+    pub fn asked(&self) -> &[Name]
+        ensures asked { result.now ≡ self.now.asked }
+        ensures told { ⟦<MemShelf as Shelf>⟧.asked self.now ≡ Some result.now }
+    {
+        &self.asked
     }
 }
 
@@ -68,6 +82,8 @@ impl Shelf for MemShelf {
     ghost holds = { λ shelf. Some (held_under shelf.files) };
 
     ghost left = { λ shelf. Some shelf.left };
+
+    ghost asked = { λ shelf. Some shelf.asked };
 
     ghost is_fixed = { λ _. true };
 
@@ -82,12 +98,17 @@ impl Shelf for MemShelf {
         ensures counts { self.old.plan.faults ≤ self.new.plan.faults }
         ensures files { self.new.files ≡ self.old.files }
         ensures step { self.new.step ≡ self.old.step }
-        ensures planned { is_ok result ≡ not (is_next_planned self.old.plan) }
+        ensures asked { OnOk result (self.new.asked ≡ self.old.asked ++ name.now ∷ []) }
+        ensures unasked { OnErr result (self.new.asked ≡ self.old.asked) }
+        ensures planned { OnOk result (is_next_planned self.old.plan ≡ false) }
         ensures after { self.new.plan ≡ called self.old.plan (is_ok result) }
     {
         self.place = self.files.len();
         self.from = 0;
         self.plan.next_call()?;
+        if note(&mut self.asked, name).is_err() {
+            return Err(self.plan.fault());
+        }
         match place_of(&self.files, name) {
             Some(place) => {
                 self.place = place;
@@ -100,12 +121,13 @@ impl Shelf for MemShelf {
     fn read(&mut self, into: &mut [u8]) -> Result<usize, Failed>
         requires { 0 < length into.old }
         ensures count { IfOk result (λ n. n ≤ length into.new) }
-        ensures front { IfOk result (λ n. GivesFront (Some self.old.left) (take n into.new) (Some self.new.left)) }
+        ensures front { IfOk result (λ n. GivesPrefix (Some self.old.left) (take n into.new) (Some self.new.left)) }
         ensures end { IfOk result (λ n. n ≡ 0 → IsAtEnd (Some self.old.left)) }
         ensures failed { OnErr result (self.new.left ≡ self.old.left) }
         ensures rose { OnErr result (HasRisen self.old.plan.faults self.new.plan.faults) }
         ensures counts { self.old.plan.faults ≤ self.new.plan.faults }
         ensures files { self.new.files ≡ self.old.files }
+        ensures asked { self.new.asked ≡ self.old.asked }
         ensures step { self.new.step ≡ self.old.step }
         ensures most { IfOk result (λ n. n ≡ min self.old.step (min (length self.old.left) (length into.old))) }
         ensures planned { is_ok result ≡ not (is_next_planned self.old.plan) }
@@ -121,6 +143,16 @@ impl Shelf for MemShelf {
     fn fault_count(&self) -> u64 {
         self.plan.fault_count()
     }
+}
+
+/// Adds the name to these. For want of memory it changes nothing.
+fn note(asked: &mut Vec<Name>, name: &str) -> Result<(), NoMemory>
+    ensures ok { OnOk result (asked.new.items ≡ asked.old.items ++ name.now ∷ []) }
+    ensures err { OnErr result (asked.new.items ≡ asked.old.items) }
+{
+    let name = Name::of(*asked.allocator(), name)?;
+    asked.push(name)?;
+    Ok(())
 }
 
 /// Where the first file of this name stands.
@@ -147,7 +179,7 @@ fn left_at(files: &[(Name, Vec<u8>)], place: usize, from: usize) -> &[u8]
     }
 }
 
-/// Puts the front of these bytes at the front of `into`, at most `most` of them, and answers how many.
+/// Puts a prefix of these bytes at the beginning of `into`, at most `most` of them, and answers how many.
 fn copy_front(bytes: &[u8], into: &mut [u8], most: usize) -> usize
     ensures count { result ≡ min most (min (length bytes.now) (length into.old)) }
     ensures front { take result into.new ≡ take result bytes.now }

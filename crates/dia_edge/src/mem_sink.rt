@@ -3,7 +3,7 @@ ghost use Rattle.std.specs.Prelude.{◌≡◌, ◌≤◌, Some, [], false, is_ok
 ghost use Rattle.dia_edge.specs.Counts.{HasRisen};
 ghost use Rattle.dia_edge.specs.Memory.{collected};
 ghost use Rattle.dia_edge.specs.Plans.{fresh, is_next_planned};
-ghost use Rattle.dia_edge.specs.Sinks.{TookAll, TookFront};
+ghost use Rattle.dia_edge.specs.Sinks.{TookAll, TookPrefix};
 
 use crate::plan::FaultPlan;
 use crate::refusals::Failed;
@@ -56,7 +56,7 @@ impl Sink for MemSink {
 
     fn put(&mut self, bytes: &[u8]) -> Result<(), Failed>
         ensures ok { OnOk result (TookAll (Some self.old.taken) bytes.now (Some self.new.taken)) }
-        ensures failed { OnErr result (TookFront (Some self.old.taken) bytes.now (Some self.new.taken)) }
+        ensures failed { OnErr result (TookPrefix (Some self.old.taken) bytes.now (Some self.new.taken)) }
         ensures rose { OnErr result (HasRisen self.old.plan.faults self.new.plan.faults) }
         ensures counts { self.old.plan.faults ≤ self.new.plan.faults }
         ensures planned { OnOk result (is_next_planned self.old.plan ≡ false) }

@@ -1,7 +1,7 @@
 //! Sinks: where texts go.
-ghost use Rattle.std.specs.Prelude.{◌≡◌, ℕ, ◌≤◌, List, Option, is_some, OnOk, OnErr};
+ghost use Rattle.std.specs.Prelude.{◌≡◌, ℕ, ◌≤◌, [], List, Option, is_some, OnOk, OnErr};
 ghost use Rattle.dia_edge.specs.Counts.{HasRisen};
-ghost use Rattle.dia_edge.specs.Sinks.{TookAll, TookFront};
+ghost use Rattle.dia_edge.specs.Sinks.{TookAll, TookPrefix, Puts};
 
 use crate::refusals::Failed;
 
@@ -12,13 +12,15 @@ pub trait Sink {
     // How many calls failed; it stands still at 2^64 - 1.
     ghost faults: { Self → ℕ };
 
-    /// Takes the whole piece. After a failure it took some front of the piece, which may be nothing or all of it.
+    /// Takes the whole piece. After a failure it took some prefix of the piece, which may be nothing or all of it.
     fn put(&mut self, bytes: &[u8]) -> Result<(), Failed>
         ensures ok { OnOk result (TookAll (taken self.old) bytes.now (taken self.new)) }
-        ensures failed { OnErr result (TookFront (taken self.old) bytes.now (taken self.new)) }
+        ensures failed { OnErr result (TookPrefix (taken self.old) bytes.now (taken self.new)) }
         ensures rose { OnErr result (HasRisen (faults self.old) (faults self.new)) }
         ensures counts { faults self.old ≤ faults self.new }
-        ensures tells { is_some (taken self.new) ≡ is_some (taken self.old) };
+        ensures tells { is_some (taken self.new) ≡ is_some (taken self.old) }
+        // All this as one word.
+        ensures puts { Puts taken faults self.old self.new bytes.now [] result };
 
     /// How many calls failed so far; it stands still at `u64::MAX`.
     fn fault_count(&self) -> u64

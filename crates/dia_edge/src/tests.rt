@@ -49,6 +49,11 @@ fn a_shelf_in_memory_is_read_in_steps(rt: HostRuntime) -> Result<(), Fail> {
     }
     assert_eq!(rt; into, *b"453\0\0\0\0\0");
     assert_eq!(rt; shelf.open("b"), Ok(false));
+    let mut asked = Vec::new(alloc);
+    for name in shelf.asked() {
+        asked.push(name.text())?;
+    }
+    assert_eq!(rt; asked.as_slice(), ["a", "b"].as_slice());
     Ok(())
 }
 
@@ -76,8 +81,8 @@ fn a_disk_in_memory_keeps_its_slots_in_order(rt: HostRuntime) -> Result<(), Fail
     Ok(())
 }
 
-/// Writes a slot, and reads its front back.
-fn front_of_a_slot<D: Disk>(disk: &mut D, slot: u64) -> Result<[u8; 2], Failed> {
+/// Writes a slot, and reads a prefix of it back.
+fn prefix_of_a_slot<D: Disk>(disk: &mut D, slot: u64) -> Result<[u8; 2], Failed> {
     let mut into = [0u8; 2];
     disk.write(slot, b"abc")?;
     disk.read(slot, &mut into)?;
@@ -85,12 +90,12 @@ fn front_of_a_slot<D: Disk>(disk: &mut D, slot: u64) -> Result<[u8; 2], Failed> 
 }
 
 #[test]
-fn a_slot_is_read_from_its_front(rt: HostRuntime) -> Result<(), Fail> {
+fn a_slot_is_read_from_its_first_byte(rt: HostRuntime) -> Result<(), Fail> {
     let mut memory = MemDisk::new(rt.alloc(), [4].to_vec(rt.alloc())?);
-    assert_eq!(rt; front_of_a_slot(&mut memory, 5), Ok(*b"ab"));
-    assert_eq!(rt; front_of_a_slot(&mut memory, 5), Err(Failed));
-    let mut file = FileDisk::new(rt, scratch(&rt, "front")?);
-    assert_eq!(rt; front_of_a_slot(&mut file, 5), Ok(*b"ab"));
+    assert_eq!(rt; prefix_of_a_slot(&mut memory, 5), Ok(*b"ab"));
+    assert_eq!(rt; prefix_of_a_slot(&mut memory, 5), Err(Failed));
+    let mut file = FileDisk::new(rt, scratch(&rt, "prefix")?);
+    assert_eq!(rt; prefix_of_a_slot(&mut file, 5), Ok(*b"ab"));
     Ok(())
 }
 
@@ -140,12 +145,15 @@ fn a_folder_gives_its_files(rt: HostRuntime) -> Result<(), Fail> {
 }
 
 #[test]
-fn the_standard_streams_take_pieces(rt: HostRuntime) {
+fn the_standard_streams_take_pieces(rt: HostRuntime) -> Result<(), Fail> {
     let mut out = StdSink::out(rt);
     let mut err = StdSink::err(rt);
-    assert_eq!(rt; out.put(b"to standard output\n"), Ok(()));
+    // More than a pipe takes at once.
+    let long = vec![in rt.alloc(); b'\n'; 200_000]?;
+    assert_eq!(rt; out.put(long.as_slice()), Ok(()));
     assert_eq!(rt; err.put(b"to standard error\n"), Ok(()));
     assert_eq!(rt; (out.fault_count(), err.fault_count()), (0, 0));
+    Ok(())
 }
 
 #[test]
