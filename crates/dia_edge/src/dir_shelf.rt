@@ -72,6 +72,8 @@ impl<R: Files> Shelf for DirShelf<R> {
         ensures count { IfOk result (λ n. n ≤ length into.new) }
         ensures rose { OnErr result (HasRisen (⟦<DirShelf<R> as Shelf>⟧.faults self.old) (⟦<DirShelf<R> as Shelf>⟧.faults self.new)) }
         ensures counts { ⟦<DirShelf<R> as Shelf>⟧.faults self.old ≤ ⟦<DirShelf<R> as Shelf>⟧.faults self.new }
+        // Where nothing is open nothing is left.
+        ensures shut { is_some self.old.opened ≡ false → result ≡ Ok 0 }
         // Where the file tells what is left of it, that is what is given, and a fault is never taken for its end.
         ensures bytes { ReadConsumes (left_of R.File.Read.remaining self.old.opened) (left_of R.File.Read.remaining self.new.opened) result into.new }
     {
