@@ -1,31 +1,21 @@
 //! The program `thrill`: makes the real shelf, streams and disk, and calls `thrill_call`.
 #![tactic(auto)]
 
-use dia_edge::{DirShelf, MemDisk, Name, NoMemory, OpenGate, StdSink};
-use std::alloc::Global;
-use std::env;
+ghost use Rattle.std.specs.Prelude.{◌≡◌, ◌⊎◌, IfOk, OnOk, OnErr, codes};
+ghost use Rattle.dia_edge.specs.Counts.{HasRisen};
+ghost use Rattle.dia_edge.specs.Sinks.{TookAll, TookPrefix};
+
+use dia_edge::{DirShelf, MemDisk, NoMemory, OpenGate, Sink, StdSink};
+use main_words::{command_words, fetch_arguments};
 use std::process::ExitCode;
 use std::sync::Wait;
-use thrill_top::thrill_call;
+use thrill_top::{TopFault, put_fault, thrill_call};
 
-// the status of a call that found no memory for its words
-const NO_MEMORY: u8 = 12;
-
-/// The words behind the program's name. A word that isn't UTF-8 makes a faulty command line, as no words do.
-fn words_of(rt: &HostRuntime, alloc: Global) -> Result<Vec<Name>, NoMemory> {
-    let mut words = Vec::new(alloc);
-    let Ok(args) = env::args(rt) else {
-        return Ok(words);
-    };
-    for word in args.skip(1) {
-        words.push(Name::of(alloc, word.as_str())?)?;
-    }
-    Ok(words)
-}
-
+/// Calls `thrill_call` with the words of the command line, and answers its status.
 fn run<R: Wait>(wait: &R, rt: HostRuntime) -> Result<u8, NoMemory> {
     let alloc = rt.alloc();
-    let words = words_of(&rt, alloc)?;
+    let args = fetch_arguments(&rt, alloc)?;
+    let words = command_words(alloc, args.as_slice())?;
     let mut shelf = DirShelf::new(rt);
     let mut out = StdSink::out(rt);
     let mut err = StdSink::err(rt);
@@ -43,9 +33,25 @@ fn run<R: Wait>(wait: &R, rt: HostRuntime) -> Result<u8, NoMemory> {
     Ok(end.status)
 }
 
-fn main(rt: HostRuntime) -> ExitCode {
-    match run(&rt, rt) {
-        Ok(status) => ExitCode::from(status),
-        Err(NoMemory) => ExitCode::from(NO_MEMORY),
+/// The status of a call; where there was no memory for its words, that of this fault, whose line goes to `err`.
+fn status_of<E: Sink>(end: Result<u8, NoMemory>, err: &mut E) -> u8
+    ensures called { IfOk end (λ status. result ≡ status) }
+    ensures untouched { OnOk end (err.new ≡ err.old) }
+    ensures no_memory { OnErr end (result ≡ 12) }
+    ensures told { OnErr end (TookAll (E.taken err.old) (codes "thrill: no memory\n") (E.taken err.new)
+        ⊎ (TookPrefix (E.taken err.old) (codes "thrill: no memory\n") (E.taken err.new) × HasRisen (E.faults err.old) (E.faults err.new))) }
+{
+    match end {
+        Ok(status) => status,
+        Err(NoMemory) => {
+            let _ = put_fault(&TopFault::NoMemory, err);
+            TopFault::NoMemory.status()
+        }
     }
+}
+
+fn main(rt: HostRuntime) -> ExitCode {
+    let end = run(&rt, rt);
+    let mut err = StdSink::err(rt);
+    ExitCode::from(status_of(end, &mut err))
 }
