@@ -14,8 +14,8 @@ found_at files place name file within is same =
 
 -- of what was left, a prefix was given, and the others are left
 pub gives_prefix : (bytes left piece : List ℕ) (from count : ℕ) → left ≡ drop from bytes → piece ≡ take count left → GivesPrefix (Some left) piece (Some (drop (from + count) bytes))
-gives_prefix bytes left piece from count is front = (
+gives_prefix bytes left piece from count is prefix = (
   drop count left,
-  sym (take-append-drop count left) ∙ ap (λ p. p ++ drop count left) (sym front),
+  sym (take-append-drop count left) ∙ ap (λ p. p ++ drop count left) (sym prefix),
   ap Some (sym (drop-drop count from bytes) ∙ ap (drop count) (sym is)),
 )

@@ -24,10 +24,6 @@ IsShut left = IfSome left (λ bytes. bytes ≡ [])
 abbrev pub GivesPrefix : Option (List ℕ) → List ℕ → Option (List ℕ) → Type 0
 GivesPrefix before prefix after = IfSome before (λ all. (rest : List ℕ) × (all ≡ prefix ++ rest) × (after ≡ Some rest))
 
--- the older name of the same
-abbrev pub GivesFront : Option (List ℕ) → List ℕ → Option (List ℕ) → Type 0
-GivesFront before prefix after = GivesPrefix before prefix after
-
 -- some next bytes are gone, and the others are left
 abbrev pub DropsPrefix : Option (List ℕ) → Option (List ℕ) → Type 0
 DropsPrefix before after =

@@ -11,10 +11,6 @@ abbrev pub TookPrefix : Option (List ℕ) → List ℕ → Option (List ℕ) →
 TookPrefix before piece after =
     IfSome before (λ bytes. (prefix : List ℕ) × (rest : List ℕ) × (piece ≡ prefix ++ rest) × (after ≡ Some (bytes ++ prefix)))
 
--- the older name of the same
-abbrev pub TookFront : Option (List ℕ) → List ℕ → Option (List ℕ) → Type 0
-TookFront before piece after = TookPrefix before piece after
-
 -- the piece was taken but for the rest of it
 abbrev pub TookBut : Option (List ℕ) → List ℕ → List ℕ → Option (List ℕ) → Type 0
 TookBut before piece rest after =

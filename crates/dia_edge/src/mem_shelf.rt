@@ -121,7 +121,7 @@ impl Shelf for MemShelf {
     fn read(&mut self, into: &mut [u8]) -> Result<usize, Failed>
         requires { 0 < length into.old }
         ensures count { IfOk result (λ n. n ≤ length into.new) }
-        ensures front { IfOk result (λ n. GivesPrefix (Some self.old.left) (take n into.new) (Some self.new.left)) }
+        ensures prefix { IfOk result (λ n. GivesPrefix (Some self.old.left) (take n into.new) (Some self.new.left)) }
         ensures end { IfOk result (λ n. n ≡ 0 → IsAtEnd (Some self.old.left)) }
         ensures failed { OnErr result (self.new.left ≡ self.old.left) }
         ensures rose { OnErr result (HasRisen self.old.plan.faults self.new.plan.faults) }
@@ -135,7 +135,7 @@ impl Shelf for MemShelf {
     {
         self.plan.next_call()?;
         let left = left_at(&self.files, self.place, self.from);
-        let count = copy_front(left, into, self.step);
+        let count = copy_prefix(left, into, self.step);
         self.from += count;
         Ok(count)
     }
@@ -180,9 +180,9 @@ fn left_at(files: &[(Name, Vec<u8>)], place: usize, from: usize) -> &[u8]
 }
 
 /// Puts a prefix of these bytes at the beginning of `into`, at most `most` of them, and answers how many.
-fn copy_front(bytes: &[u8], into: &mut [u8], most: usize) -> usize
+fn copy_prefix(bytes: &[u8], into: &mut [u8], most: usize) -> usize
     ensures count { result ≡ min most (min (length bytes.now) (length into.old)) }
-    ensures front { take result into.new ≡ take result bytes.now }
+    ensures prefix { take result into.new ≡ take result bytes.now }
     ensures len { length into.new ≡ length into.old }
 {
     let count = most.min(bytes.len().min(into.len()));

@@ -5,7 +5,7 @@ ghost use Rattle.dia_edge.specs.Shelves.{Holdings, IsOpened, IsAbsent, IsShut, G
 
 use crate::refusals::Failed;
 
-/// Inputs by name, read from front to back, one at a time.
+/// Inputs by name, read from beginning to end, one at a time.
 pub trait Shelf {
     // What each name holds, where the shelf tells.
     ghost holds: { Self → Option Holdings };
@@ -40,7 +40,7 @@ pub trait Shelf {
     fn read(&mut self, into: &mut [u8]) -> Result<usize, Failed>
         requires room { 0 < length into.old }
         ensures count { IfOk result (λ n. n ≤ length into.new) }
-        ensures front { IfOk result (λ n. GivesPrefix (left self.old) (take n into.new) (left self.new)) }
+        ensures prefix { IfOk result (λ n. GivesPrefix (left self.old) (take n into.new) (left self.new)) }
         ensures end { IfOk result (λ n. n ≡ 0 → IsAtEnd (left self.old)) }
         ensures failed { OnErr result (left self.new ≡ left self.old) }
         ensures rose { OnErr result (HasRisen (faults self.old) (faults self.new)) }

@@ -2,7 +2,7 @@
 use Rattle.std.proofs.Common.{◌≡◌, ℕ, ◌+◌, ◌*◌, ◌-◌, ◌^◌, ◌<◌, ◌≤◌, nat_lt, Bool, true, false, ◌&&◌, List, [], ◌∷◌, length, None, Some, ◌⊎◌, inl, inr, refl, arith, if◌then◌else◌}
 use Rattle.std.proofs.lemmas.Bool.{le-ltb, lt-ltb, ltb-false, le-leb, lt-leb}
 use Rattle.std.specs.List.{list_all}
-use Rattle.dia_defs.specs.Texts.{is_decimal, number_after, number_spelled}
+use Rattle.row_defs.specs.Texts.{is_decimal, number_after, number_spelled}
 use Rattle.dia_expr.specs.Digits.{with_digit, with_digits}
 
 pub number_after-ge : (n : ℕ) (bytes : List ℕ) → n ≤ number_after n bytes

@@ -2,9 +2,9 @@
 use Rattle.std.proofs.Common.{◌≡◌, ◌<◌, length, ℕ, true, false, List, [], ◌∷◌, ◌++◌, Option, None, Some, refl, sym, ap, ◌∙◌, arith, lit≤, append_assoc, append-nil}
 use Rattle.std.specs.Option.{option_map}
 use Rattle.std.specs.List.{list_any}
-use Rattle.dia_defs.specs.declared.cause.Cause.TheVariants as cause
-use Rattle.dia_defs.specs.Values.{Expr}
-use Rattle.dia_defs.specs.Expressions.{begins_none, is_bad_number, exprs_of, read, ending_of, number_fault, list_fault, fault_at, one_fault}
+use Rattle.row_defs.specs.declared.cause.Cause.TheVariants as cause
+use Rattle.row_defs.specs.Values.{Expr}
+use Rattle.row_defs.specs.Expressions.{begins_none, is_bad_number, exprs_of, read, ending_of, number_fault, list_fault, fault_at, one_fault}
 use Rattle.dia_expr.specs.declared.read.ExprErr as errors
 use Rattle.dia_expr.specs.declared.read.ExprErr.TheVariants.{BadForm, UnknownWord, BadNumber, NoMemory}
 use Rattle.dia_expr.specs.Reads.{IsRead, IsStopAt, IsListStop, IsFault}
@@ -55,23 +55,23 @@ unfolding exprs_of
 exprs_of-one words [] e r none = r.exprs
 exprs_of-one words (w ∷ rest) e r none = absurd (omega arith)
 
--- one expression more in front
-onto_front : (front : List Expr) (e : Expr) (o : Option (List Expr))
-    → option_map (λ exprs. front ++ exprs) (option_map (λ exprs. e ∷ exprs) o) ≡ option_map (λ exprs. (front ++ e ∷ []) ++ exprs) o
-onto_front front e None = refl
-onto_front front e (Some exprs) = ap Some (sym (append_assoc front (e ∷ []) exprs))
+-- one expression more before others
+onto_prefix : (prefix : List Expr) (e : Expr) (o : Option (List Expr))
+    → option_map (λ exprs. prefix ++ exprs) (option_map (λ exprs. e ∷ exprs) o) ≡ option_map (λ exprs. (prefix ++ e ∷ []) ++ exprs) o
+onto_prefix prefix e None = refl
+onto_prefix prefix e (Some exprs) = ap Some (sym (append_assoc prefix (e ∷ []) exprs))
 
-pub exprs_of-more : (words rest : List (List ℕ)) (front longer : List Expr) (e : Expr) → IsRead words e rest → longer ≡ front ++ e ∷ []
-    → option_map (λ exprs. front ++ exprs) (exprs_of words) ≡ option_map (λ exprs. longer ++ exprs) (exprs_of rest)
-exprs_of-more words rest front longer e r onto =
-    ap (option_map (λ exprs. front ++ exprs)) r.exprs ∙ onto_front front e (exprs_of rest)
+pub exprs_of-more : (words rest : List (List ℕ)) (prefix longer : List Expr) (e : Expr) → IsRead words e rest → longer ≡ prefix ++ e ∷ []
+    → option_map (λ exprs. prefix ++ exprs) (exprs_of words) ≡ option_map (λ exprs. longer ++ exprs) (exprs_of rest)
+exprs_of-more words rest prefix longer e r onto =
+    ap (option_map (λ exprs. prefix ++ exprs)) r.exprs ∙ onto_prefix prefix e (exprs_of rest)
     ∙ ap (λ all. option_map (λ exprs. all ++ exprs) (exprs_of rest)) (sym onto)
 
-pub exprs_of-done : (words : List (List ℕ)) (front : List Expr) → length words ≡ 0
-    → option_map (λ exprs. front ++ exprs) (exprs_of words) ≡ Some front
+pub exprs_of-done : (words : List (List ℕ)) (prefix : List Expr) → length words ≡ 0
+    → option_map (λ exprs. prefix ++ exprs) (exprs_of words) ≡ Some prefix
 unfolding exprs_of
-exprs_of-done [] front none = ap Some (append-nil front)
-exprs_of-done (w ∷ words) front none = absurd (omega arith)
+exprs_of-done [] prefix none = ap Some (append-nil prefix)
+exprs_of-done (w ∷ words) prefix none = absurd (omega arith)
 
 pub exprs_of-all : (o : Option (List Expr)) → option_map (λ exprs. [] ++ exprs) o ≡ o
 exprs_of-all None = refl

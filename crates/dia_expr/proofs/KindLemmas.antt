@@ -2,9 +2,9 @@
 use Rattle.std.proofs.Common.{◌≡◌, length, List, Option, None, Some, Bool, true, false, ◌&&◌, IsSome, refl, sym, ◌∙◌, subst}
 use Rattle.std.proofs.lemmas.Bool.{lt-leb}
 use Rattle.std.proofs.lemmas.Option.{slice_get_within}
-use Rattle.dia_defs.specs.declared.kind.Kind.{Kind}
-use Rattle.dia_defs.specs.declared.kind.Kind.TheVariants.{Int, Text}
-use Rattle.dia_defs.specs.Values.{Expr, column, number, literal, math, is_zero, compare, choose, len, num, spelled, part, expr_kind, is_int, is_text, are_alike, kind_where, lacks_column}
+use Rattle.row_defs.specs.declared.kind.Kind.{Kind}
+use Rattle.row_defs.specs.declared.kind.Kind.TheVariants.{Int, Text}
+use Rattle.row_defs.specs.Values.{Expr, column, number, literal, math, is_zero, compare, choose, len, num, spelled, part, expr_kind, is_int, is_text, are_alike, kind_where, lacks_column}
 use Rattle.dia_expr.specs.Typing.{HasKind}
 
 pub HasKind-unique : (kinds : List Kind) (e : Expr) (k l : Kind) → HasKind kinds e k → HasKind kinds e l → k ≡ l

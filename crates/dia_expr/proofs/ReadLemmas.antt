@@ -1,8 +1,8 @@
 -- How the readings of operands make the reading of a form.
 use Rattle.std.proofs.Common.{◌≡◌, ◌≤◌, ◌<◌, length, lit<, ℕ, zero, suc, List, [], ◌∷◌, Option, None, Some, refl, ◌∙◌, arith}
 use Rattle.std.specs.Option.{option_map}
-use Rattle.dia_defs.specs.Values.{Expr}
-use Rattle.dia_defs.specs.Expressions.{Beginning, whole, with_one, with_two, with_three, beginning_of, onto, exprs_of, and_operands, Ending, stopped, inside, ending_of}
+use Rattle.row_defs.specs.Values.{Expr}
+use Rattle.row_defs.specs.Expressions.{Beginning, whole, with_one, with_two, with_three, beginning_of, onto, exprs_of, and_operands, Ending, stopped, inside, ending_of}
 use Rattle.dia_expr.specs.declared.read.ExprErr as errors
 use Rattle.dia_expr.specs.declared.read.ExprErr.TheVariants.{BadForm, UnknownWord, BadNumber, NoMemory}
 use Rattle.dia_expr.specs.Reads.{IsRead, IsPairRead, IsFormRead, AreFewer, IsStopAt}

@@ -6,10 +6,10 @@ use Rattle.std.specs.Fmt.{decimal}
 use Rattle.std.proofs.lemmas.Bool.{le-leb, lt-ltb, leb-true, ne_eqb}
 use Rattle.std.proofs.lemmas.Str.Parse.{IsNumeralModel, numerals_by_fold}
 use Rattle.std.proofs.lemmas.Fmt.{decimal_nonempty, length-decimal-le, digits_decimal, digits_value-decimal}
-use Rattle.dia_defs.specs.Rows.{longest_text}
-use Rattle.dia_defs.specs.Texts.{is_decimal, number_after, number_of_digits, is_number, number_or_0}
-use Rattle.dia_defs.specs.Values.{Math, plus, minus, times, quotient, remainder, smaller, larger, bits_and, bits_or, bits_xor, Comparison, equal, less, at_most, Part, front, back, nth_word, Expr, column, number, literal, math, is_zero, compare, choose, len, num, spelled, part}
-use Rattle.dia_defs.specs.Expressions.{whole, with_one, with_two, with_three, form_word, leaf_word, literal_rest, column_word, beginning_of, begins_none, is_bad_number, exprs_of, list_fault, one_fault, math_name, comparison_name, part_name, expr_words, HasWords}
+use Rattle.row_defs.specs.Limits.{longest_text}
+use Rattle.row_defs.specs.Texts.{is_decimal, number_after, number_of_digits, is_number, number_or_0}
+use Rattle.row_defs.specs.Values.{Math, plus, minus, times, quotient, remainder, smaller, larger, bits_and, bits_or, bits_xor, Comparison, equal, less, at_most, Part, prefix, suffix, nth_word, Expr, column, number, literal, math, is_zero, compare, choose, len, num, spelled, part}
+use Rattle.row_defs.specs.Expressions.{whole, with_one, with_two, with_three, form_word, leaf_word, literal_rest, column_word, beginning_of, begins_none, is_bad_number, exprs_of, list_fault, one_fault, math_name, comparison_name, part_name, expr_words, HasWords}
 use Rattle.dia_expr.specs.Reads.{IsRead}
 use Rattle.dia_expr.proofs.KindLemmas.{both_from}
 use Rattle.dia_expr.proofs.ReadLemmas.{read_whole, read_one, read_two, read_three, read_pair, read_form}
@@ -82,13 +82,13 @@ comparison_good less = refl
 comparison_good at_most = refl
 
 part_begins : (op : Part) → beginning_of (part_name op) ≡ Some (with_two (part op))
-part_begins front = refl
-part_begins back = refl
+part_begins prefix = refl
+part_begins suffix = refl
 part_begins nth_word = refl
 
 part_good : (op : Part) → is_bad_number (part_name op) ≡ false
-part_good front = refl
-part_good back = refl
+part_good prefix = refl
+part_good suffix = refl
 part_good nth_word = refl
 
 -- numbers

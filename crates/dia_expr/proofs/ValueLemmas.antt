@@ -1,8 +1,8 @@
 -- A value has the kind of its expression.
 use Rattle.std.proofs.Common.{◌≡◌, ℕ, zero, suc, Bool, true, false, ◌==◌, [], ◌∷◌, Some, slice_get, slice_index_or, if◌then◌else◌, sym}
-use Rattle.dia_defs.specs.declared.kind.Kind.{Kind}
-use Rattle.dia_defs.specs.Rows.{Cell, int, Row, kind_of, kinds_of}
-use Rattle.dia_defs.specs.Values.{Expr, column, number, literal, math, is_zero, compare, choose, len, num, spelled, part, expr_kind, number_in, value_of}
+use Rattle.row_defs.specs.declared.kind.Kind.{Kind}
+use Rattle.row_defs.specs.Rows.{Cell, int, Row, kind_of, kinds_of}
+use Rattle.row_defs.specs.Values.{Expr, column, number, literal, math, is_zero, compare, choose, len, num, spelled, part, expr_kind, number_in, value_of}
 use Rattle.dia_expr.specs.Typing.{HasKind}
 use Rattle.dia_expr.proofs.KindLemmas.{HasKind-from}
 

@@ -1,7 +1,7 @@
--- The words of a text, from the front.
+-- The words of a text, from the beginning.
 use Rattle.std.proofs.Common.{◌≡◌, ℕ, zero, suc, ◌<◌, ◌≤◌, true, false, List, [], ◌∷◌, ◌++◌, length, take, drop, refl, sym, ap, ◌∙◌, append_assoc, append-nil, arith}
 use Rattle.std.proofs.lemmas.List.{take-append-drop, length-take-le}
-use Rattle.dia_defs.specs.Texts.{is_blank, words_after, words_in_text}
+use Rattle.row_defs.specs.Texts.{is_blank, words_after, words_in_text}
 use Rattle.dia_expr.specs.Runs.{AreNoBlanks, EndsWord}
 
 pub words_nil : words_in_text [] ≡ []

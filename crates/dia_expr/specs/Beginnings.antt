@@ -1,6 +1,6 @@
 -- What a word begins, as the definitions see it.
-use Rattle.dia_defs.specs.Values.{Expr, math, is_zero, compare, choose, len, num, spelled, part}
-use Rattle.dia_defs.specs.Expressions.{Beginning, whole, with_one, with_two, with_three}
+use Rattle.row_defs.specs.Values.{Expr, math, is_zero, compare, choose, len, num, spelled, part}
+use Rattle.row_defs.specs.Expressions.{Beginning, whole, with_one, with_two, with_three}
 use Rattle.dia_expr.specs.Exprs.{expr_in, math_in, comparison_in, part_in}
 use Rattle.dia_expr.specs.declared.spelling.One as ones
 use Rattle.dia_expr.specs.declared.spelling.One.TheVariants.{Not, Len, Num, Text}

@@ -1,7 +1,7 @@
 -- Numbers read digit by digit.
 use Rattle.std.specs.Prelude.{ℕ, ◌+◌, ◌*◌, ◌-◌, ◌^◌, nat_lt, ◌&&◌, List, Option, None, Some, if◌then◌else◌}
 use Rattle.std.specs.List.{list_all}
-use Rattle.dia_defs.specs.Texts.{is_decimal, number_after}
+use Rattle.row_defs.specs.Texts.{is_decimal, number_after}
 
 -- one digit more, within 64 bits
 abbrev pub with_digit : ℕ → ℕ → Option ℕ

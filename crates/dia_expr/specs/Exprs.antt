@@ -9,7 +9,7 @@ use Rattle.dia_expr.specs.declared.expr.Comparison as comparisons
 use Rattle.dia_expr.specs.declared.expr.Comparison.TheVariants.{Eq, Lt, Le}
 use Rattle.dia_expr.specs.declared.expr.Part as parts
 use Rattle.dia_expr.specs.declared.expr.Part.TheVariants.{Head, Tail, Word}
-use Rattle.dia_defs.specs.Values.{Math, plus, minus, times, quotient, remainder, smaller, larger, bits_and, bits_or, bits_xor, Comparison, equal, less, at_most, Part, front, back, nth_word, Expr, column, number, literal, math, is_zero, compare, choose, len, num, spelled, part}
+use Rattle.row_defs.specs.Values.{Math, plus, minus, times, quotient, remainder, smaller, larger, bits_and, bits_or, bits_xor, Comparison, equal, less, at_most, Part, prefix, suffix, nth_word, Expr, column, number, literal, math, is_zero, compare, choose, len, num, spelled, part}
 
 abbrev pub math_in : maths.Math → Math
 math_in Add = plus
@@ -29,8 +29,8 @@ comparison_in Lt = less
 comparison_in Le = at_most
 
 abbrev pub part_in : parts.Part → Part
-part_in Head = front
-part_in Tail = back
+part_in Head = prefix
+part_in Tail = suffix
 part_in Word = nth_word
 
 abbrev pub literal_bytes : literals.Literal → List ℕ

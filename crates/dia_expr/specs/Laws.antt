@@ -1,10 +1,10 @@
 -- What holds of all expressions.
 use Rattle.std.specs.Prelude.{◌≡◌, List, Some, None}
 use Rattle.std.specs.List.{flat_map, AllByRecursion}
-use Rattle.dia_defs.specs.declared.kind.Kind.{Kind}
-use Rattle.dia_defs.specs.Rows.{Row, kind_of, kinds_of}
-use Rattle.dia_defs.specs.Values.{Expr, expr_kind, value_of}
-use Rattle.dia_defs.specs.Expressions.{exprs_of, list_fault, one_fault, expr_words, HasWords}
+use Rattle.row_defs.specs.declared.kind.Kind.{Kind}
+use Rattle.row_defs.specs.Rows.{Row, kind_of, kinds_of}
+use Rattle.row_defs.specs.Values.{Expr, expr_kind, value_of}
+use Rattle.row_defs.specs.Expressions.{exprs_of, list_fault, one_fault, expr_words, HasWords}
 
 -- the words of expressions are those expressions again, and they aren't refused
 abbrev pub AreReadAgain : Type 0

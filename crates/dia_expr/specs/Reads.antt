@@ -3,10 +3,10 @@ use Rattle.std.specs.Prelude.{◌≡◌, ◌≤◌, ◌<◌, length, ℕ, suc, t
 use Rattle.std.specs.Borrow.{Bor}
 use Rattle.std.specs.Option.{option_map}
 use Rattle.std.specs.List.{list_any}
-use Rattle.dia_defs.specs.declared.cause.Cause as causes
-use Rattle.dia_defs.specs.declared.cause.Cause.TheVariants as cause
-use Rattle.dia_defs.specs.Values.{Expr}
-use Rattle.dia_defs.specs.Expressions.{Beginning, begins_none, onto, exprs_of, and_operands, stopped, inside, ending_of}
+use Rattle.row_defs.specs.declared.cause.Cause as causes
+use Rattle.row_defs.specs.declared.cause.Cause.TheVariants as cause
+use Rattle.row_defs.specs.Values.{Expr}
+use Rattle.row_defs.specs.Expressions.{Beginning, begins_none, onto, exprs_of, and_operands, stopped, inside, ending_of}
 use Rattle.dia_expr.specs.declared.read.ExprErr as errors
 use Rattle.dia_expr.specs.declared.read.ExprErr.TheVariants.{BadForm, UnknownWord, BadNumber, NoMemory}
 

@@ -1,6 +1,6 @@
 -- Where a word runs and where it ends.
 use Rattle.std.specs.Prelude.{◌≡◌, ℕ, true, false, List, [], ◌∷◌}
-use Rattle.dia_defs.specs.Texts.{is_blank}
+use Rattle.row_defs.specs.Texts.{is_blank}
 
 -- no byte parts words
 abbrev pub AreNoBlanks : List ℕ → Type 0

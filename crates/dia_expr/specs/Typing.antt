@@ -1,8 +1,8 @@
 -- Expressions that have a kind, form by form.
 use Rattle.std.specs.Prelude.{◌≡◌, List, Some, slice_get}
-use Rattle.dia_defs.specs.declared.kind.Kind.{Kind}
-use Rattle.dia_defs.specs.declared.kind.Kind.TheVariants.{Int, Text}
-use Rattle.dia_defs.specs.Values.{Expr, column, number, literal, math, is_zero, compare, choose, len, num, spelled, part}
+use Rattle.row_defs.specs.declared.kind.Kind.{Kind}
+use Rattle.row_defs.specs.declared.kind.Kind.TheVariants.{Int, Text}
+use Rattle.row_defs.specs.Values.{Expr, column, number, literal, math, is_zero, compare, choose, len, num, spelled, part}
 
 -- on rows of these kinds the expression has this kind
 abbrev pub HasKind : List Kind → Expr → Kind → Type 0

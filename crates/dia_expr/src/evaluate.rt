@@ -1,10 +1,11 @@
 //! Values of expressions.
 ghost use Rattle.std.specs.Prelude.{◌≡◌, ◌<◌, ◌≤◌, ◌++◌, ◌∷◌, [], Some, length, IsSome, slice_get, slice_index_or};
-ghost use Rattle.dia_defs.specs.Rows.{int, text, kinds_of, cell_cmp, longest_text, Fits};
-ghost use Rattle.dia_defs.specs.Values.{expr_kind, value_of, bytes_in};
-ghost use Rattle.dia_defs.specs.Texts.{number_or_0};
-ghost use Rattle.dia_defs.specs.declared.kind.Kind.TheVariants.{Int, Text};
-ghost use Rattle.dia_defs.specs.declared.kind.Kind.{Kind as AnyKind};
+ghost use Rattle.row_defs.specs.Rows.{int, text, kinds_of, cell_cmp, Fits};
+ghost use Rattle.row_defs.specs.Limits.{longest_text};
+ghost use Rattle.row_defs.specs.Values.{expr_kind, value_of, bytes_in};
+ghost use Rattle.row_defs.specs.Texts.{number_or_0};
+ghost use Rattle.row_defs.specs.declared.kind.Kind.TheVariants.{Int, Text};
+ghost use Rattle.row_defs.specs.declared.kind.Kind.{Kind as AnyKind};
 ghost use Rattle.dia_item.specs.Lent.{row_in_ref};
 ghost use Rattle.dia_expr.specs.Exprs.{expr_in};
 ghost use Rattle.dia_expr.specs.Typing.{HasKind, ComparesTexts};

@@ -1,6 +1,6 @@
 //! What an expression is.
 ghost use Rattle.std.specs.Prelude.{◌≡◌, ◌≤◌, length, vec_items, IfOk};
-ghost use Rattle.dia_defs.specs.Rows.{longest_text};
+ghost use Rattle.row_defs.specs.Limits.{longest_text};
 
 use dia_edge::NoMemory;
 use std::alloc::Global;
@@ -44,9 +44,9 @@ pub enum Comparison {
 /// Which part of a text.
 #[derive(Clone, Copy, Debug, PartialEq, Eq)]
 pub enum Part {
-    /// So many bytes from its front.
+    /// So many of its first bytes.
     Head,
-    /// All but so many bytes from its front.
+    /// All but so many of its first bytes.
     Tail,
     /// The word with this number, counted from 0; empty where there is none.
     Word,

@@ -1,7 +1,7 @@
 //! Kinds of expressions.
 ghost use Rattle.std.specs.Prelude.{◌≡◌, ◌↔◌, length, IsTrue};
 ghost use Rattle.std.specs.Result.{result_ok, IsErrOf};
-ghost use Rattle.dia_defs.specs.Values.{expr_kind, lacks_column, is_int, is_text, are_alike, kind_where};
+ghost use Rattle.row_defs.specs.Values.{expr_kind, lacks_column, is_int, is_text, are_alike, kind_where};
 ghost use Rattle.dia_item.specs.KindList.{kind_list};
 ghost use Rattle.dia_expr.specs.Exprs.{expr_in};
 

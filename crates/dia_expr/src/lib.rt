@@ -23,7 +23,6 @@ pub use expr::{Comparison, Expr, Literal, Math, Part};
 pub use kinds::{KindErr, kind_of};
 pub use laws::{an_expression_is_read_again, expressions_are_read_again, values_have_their_kinds};
 pub use read::{ExprErr, read_exprs, read_one, read_words};
-pub use spelling::read_expr;
 pub use texts::split_word;
 
 #[cfg(test)]

@@ -1,6 +1,6 @@
 //! What is made of numbers.
 ghost use Rattle.std.specs.Prelude.{◌≡◌};
-ghost use Rattle.dia_defs.specs.Values.{math_value, flag, holds};
+ghost use Rattle.row_defs.specs.Values.{math_value, flag, holds};
 ghost use Rattle.dia_expr.specs.Exprs.{math_in, comparison_in};
 
 use crate::expr::{Comparison, Math};

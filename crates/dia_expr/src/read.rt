@@ -2,8 +2,8 @@
 ghost use Rattle.std.specs.Prelude.{◌≡◌, ◌<◌, ◌≤◌, ◌∷◌, ◌++◌, [], OnOk, None, Some, false, IfOk, IfErr, length, map};
 ghost use Rattle.std.specs.List.{list_any};
 ghost use Rattle.std.specs.Option.{option_map};
-ghost use Rattle.dia_defs.specs.Pieces.{words_of};
-ghost use Rattle.dia_defs.specs.Expressions.{begins_none, is_bad_number, exprs_of, list_fault, one_fault, and_operands};
+ghost use Rattle.row_defs.specs.Pieces.{words_of};
+ghost use Rattle.row_defs.specs.Expressions.{begins_none, is_bad_number, exprs_of, list_fault, one_fault, and_operands};
 ghost use Rattle.dia_expr.specs.Exprs.{expr_in};
 ghost use Rattle.dia_expr.specs.Beginnings.{form_in};
 ghost use Rattle.dia_expr.specs.Reads.{words_in, IsRead, IsPairRead, IsFormRead, IsStopAt, IsListStop, IsFault};

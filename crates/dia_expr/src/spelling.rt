@@ -1,15 +1,14 @@
 //! What a word of an expression begins.
 ghost use Rattle.std.specs.Prelude.{◌≡◌, IfOk};
 ghost use Rattle.std.specs.Option.{option_map};
-ghost use Rattle.dia_defs.specs.Reading.{expr_of};
-ghost use Rattle.dia_defs.specs.Expressions.{math_word, comparison_word, part_word, other_word, form_word, leaf_word, beginning_of, is_bad_number};
+ghost use Rattle.row_defs.specs.Expressions.{math_word, comparison_word, part_word, other_word, form_word, leaf_word, beginning_of, is_bad_number};
 ghost use Rattle.dia_expr.specs.Exprs.{expr_in, math_in, comparison_in, part_in};
 ghost use Rattle.dia_expr.specs.Beginnings.{one_in, two_in, form_in, beginning_in};
 
 use crate::expr::{Comparison, Expr, Literal, Math, Part};
 use crate::texts::number_spelled;
 use dia_edge::NoMemory;
-use dia_item::LONGEST_TEXT;
+use row_defs::limits::LONGEST_TEXT;
 use std::alloc::Global;
 
 /// A form with one operand.
@@ -179,15 +178,5 @@ pub(crate) fn is_bad_number(word: &[u8]) -> bool
     match word {
         [b'0'..=b'9', ..] => number_spelled(word).is_none(),
         _ => false,
-    }
-}
-
-/// The expression that a word spells: `f` and one digit is a column.
-pub fn read_expr(word: &[u8]) -> Option<Expr>
-    ensures { option_map expr_in result ≡ expr_of word.now }
-{
-    match word {
-        [b'f', digit] if digit.is_ascii_digit() => Some(Expr::Column(u32::from(*digit - b'0'))),
-        _ => None,
     }
 }

@@ -1,7 +1,7 @@
 //! What is made of texts.
 ghost use Rattle.std.specs.Prelude.{◌≡◌, ◌≤◌, ◌<◌, ◌∷◌, [], IfSome, IfNone, take, drop, length, slice_index_or};
-ghost use Rattle.dia_defs.specs.Texts.{is_blank, words_in_text, number_spelled};
-ghost use Rattle.dia_defs.specs.Values.{part_of};
+ghost use Rattle.row_defs.specs.Texts.{is_blank, words_in_text, number_spelled};
+ghost use Rattle.row_defs.specs.Values.{part_of};
 ghost use Rattle.dia_expr.specs.Exprs.{part_in};
 ghost use Rattle.dia_expr.specs.Digits.{with_digit};
 ghost use Rattle.dia_expr.specs.Runs.{AreNoBlanks, EndsWord};
@@ -30,7 +30,7 @@ fn skip_blanks(text: &[u8]) -> &[u8]
     rest
 }
 
-/// How many bytes at the front are of one word.
+/// How many bytes at the beginning are of one word.
 fn run_len(text: &[u8]) -> usize
     ensures len { result ≤ length text.now }
     ensures run { AreNoBlanks (take result text.now) }

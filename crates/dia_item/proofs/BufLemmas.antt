@@ -1,9 +1,9 @@
 -- A row with one more column.
 use Rattle.std.proofs.Common.{◌≡◌, ℕ, ◌+◌, ◌<◌, ◌≤◌, List, [], ◌∷◌, ◌++◌, length, refl, sym, ap, subst, ◌∙◌, append_assoc, append-nil, length-append, arith, vec_capacity}
-use Rattle.dia_defs.specs.declared.kind.Kind.{Kind}
+use Rattle.row_defs.specs.declared.kind.Kind.{Kind}
 use Rattle.dia_item.specs.declared.row_buf.RowBuf.TheInside.{Inside}
 use Rattle.dia_item.specs.KindList.{kinds_in}
-use Rattle.dia_defs.specs.Rows.{Cell, Row, IsField, IsRow}
+use Rattle.row_defs.specs.Rows.{Cell, Row, IsField, IsRow}
 use Rattle.dia_item.specs.Reading.{row_of}
 use Rattle.dia_item.specs.Room.{HasRoom, row_in}
 use Rattle.dia_item.specs.Sizes.{longest_field, longest_row}

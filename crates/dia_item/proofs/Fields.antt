@@ -2,9 +2,9 @@
 use Rattle.std.proofs.Common.{◌≡◌, ℕ, ◌+◌, ◌<◌, ◌≤◌, List, ◌++◌, length, take, drop, refl, sym, ap, subst, append_assoc, arith}
 use Rattle.std.proofs.lemmas.List.{take_at, drop_at, take-append-drop, length-append, length-take, length-take-le, length-drop}
 use Rattle.std.proofs.Math.Seq.{take-add}
-use Rattle.dia_defs.specs.declared.kind.Kind.{Kind}
-use Rattle.dia_defs.specs.declared.kind.Kind.TheVariants.{Int, Text}
-use Rattle.dia_defs.specs.Rows.{Cell, int, text, IsField, bytes_of_u32}
+use Rattle.row_defs.specs.declared.kind.Kind.{Kind}
+use Rattle.row_defs.specs.declared.kind.Kind.TheVariants.{Int, Text}
+use Rattle.row_defs.specs.Rows.{Cell, int, text, IsField, bytes_of_u32}
 use Rattle.dia_item.specs.Reading.{cell_len, cell_at, u32_of}
 use Rattle.dia_item.proofs.Numbers.{IsBytes, u64_fits, bytes_of_u64-u64_of, bytes_of_u32-u32_of, u64_again, u32_again, length-bytes_of_u64, length-bytes_of_u32}
 
@@ -19,7 +19,7 @@ text_field bytes n h is le short =
     let len : length (take m (drop 4 bytes)) ≡ m = length-take-le m (drop 4 bytes) (omega (arith, length-drop 4 bytes)) in
     (omega arith, rw (len, is, take-add 4 m bytes, bytes_of_u32-u32_of bytes h (omega arith)) refl)
 
--- what a field spells is read from the front
+-- what a field spells is read from the beginning
 pub record ReadsAs (kind : Kind) (first rest : List ℕ) (cell : Cell) : Type 0 where
   pub value : cell_at kind (first ++ rest) ≡ cell
   pub len : cell_len kind (first ++ rest) ≡ length first
@@ -27,13 +27,13 @@ pub record ReadsAs (kind : Kind) (first rest : List ℕ) (cell : Cell) : Type 0 
 pub text_reads :
     (t rest : List ℕ) → length t ≤ 65536 → ReadsAs Text (bytes_of_u32 (length t) ++ t) rest (text t)
 text_reads t rest short =
-    let front = bytes_of_u32 (length t) in
-    let assoc : (front ++ t) ++ rest ≡ front ++ (t ++ rest) = append_assoc front t rest in
-    let n : u32_of (front ++ (t ++ rest)) ≡ length t = u32_again (length t) (t ++ rest) (omega arith) in
-    let body : drop 4 (front ++ (t ++ rest)) ≡ t ++ rest = drop_at front (t ++ rest) 4 (length-bytes_of_u32 (length t)) in
+    let prefix = bytes_of_u32 (length t) in
+    let assoc : (prefix ++ t) ++ rest ≡ prefix ++ (t ++ rest) = append_assoc prefix t rest in
+    let n : u32_of (prefix ++ (t ++ rest)) ≡ length t = u32_again (length t) (t ++ rest) (omega arith) in
+    let body : drop 4 (prefix ++ (t ++ rest)) ≡ t ++ rest = drop_at prefix (t ++ rest) 4 (length-bytes_of_u32 (length t)) in
     record {
       value = rw (assoc, n, body, take_at t rest (length t) refl) refl;
-      len = rw (assoc, n) (omega (arith, length-append front t, length-bytes_of_u32 (length t)));
+      len = rw (assoc, n) (omega (arith, length-append prefix t, length-bytes_of_u32 (length t)));
     }
 
 pub field_reads : (kind : Kind) (first rest : List ℕ) (cell : Cell) → IsField kind first cell → ReadsAs kind first rest cell
@@ -45,7 +45,7 @@ field_reads Int first rest (text t) f = absurd f
 field_reads Text first rest (int n) f = absurd f
 field_reads Text first rest (text t) f = rw f.1 (text_reads t rest f.0)
 
--- a field at the front is as long as it says
+-- a field at the beginning is as long as it says
 pub field_len_is : (kind : Kind) (bytes : List ℕ) (cell : Cell) (n : ℕ) → IsField kind (take n bytes) cell → cell_len kind bytes ≡ length (take n bytes)
 field_len_is kind bytes cell n f =
     let P : List ℕ → Type 0 = λ all. cell_len kind all ≡ length (take n bytes) in

@@ -3,8 +3,8 @@ use Rattle.std.proofs.Common.{◌≡◌, ℕ, true, List, [], ◌∷◌, zero, s
 use Rattle.std.specs.Ordering.{ordering_then}
 use Rattle.std.specs.declared.cmp.Ordering.{Ordering}
 use Rattle.std.specs.declared.cmp.Ordering.TheVariants.{Less, Equal, Greater}
-use Rattle.dia_defs.specs.declared.kind.Kind.{Kind}
-use Rattle.dia_defs.specs.Rows.{Row, kinds_of, row_cmp, cell_cmp}
+use Rattle.row_defs.specs.declared.kind.Kind.{Kind}
+use Rattle.row_defs.specs.Rows.{Row, kinds_of, row_cmp, cell_cmp}
 use Rattle.dia_item.proofs.TestLemmas.{and_split}
 use Rattle.dia_item.specs.Reading.{cell_len, cell_at, row_of, has_row, has_field}
 
@@ -22,11 +22,11 @@ key_has (suc k) (kind ∷ kinds) bytes e =
     let p = and_split (has_field kind bytes) (has_row kinds (drop (cell_len kind bytes) bytes)) e in
     rw (p.0, key_has k kinds (drop (cell_len kind bytes) bytes) p.1) refl
 
--- a row whose first columns have these kinds has a row of them at its front
-pub key_front :
+-- a row whose first columns have these kinds has a row of them at its beginning
+pub key_prefix :
     (key : List Kind) (k : ℕ) (kinds : List Kind) (bytes : List ℕ) → key ≡ take k kinds → has_row kinds bytes ≡ true
     → (has_row key bytes ≡ true) × (row_of key bytes ≡ take k (row_of kinds bytes))
-key_front key k kinds bytes e h = rw e (key_has k kinds bytes h, key_row k kinds bytes)
+key_prefix key k kinds bytes e h = rw e (key_has k kinds bytes h, key_row k kinds bytes)
 
 -- no columns are equal, and else the first decides where it differs
 pub cmp_none : (kinds : List Kind) (a b : List ℕ) → length kinds ≡ 0 → Equal ≡ row_cmp (row_of kinds a) (row_of kinds b)
@@ -55,14 +55,14 @@ cmp_decided kind kinds a b r e n =
     let more = row_cmp (row_of kinds (drop (cell_len kind a) a)) (row_of kinds (drop (cell_len kind b) b)) in
     then_decided r more n ∙ ap (λ (o : Ordering). ordering_then o more) e
 
--- a row whose first columns have the kinds of another row's key has that key's kinds at its front
+-- a row whose first columns have the kinds of another row's key has that key's kinds at its beginning
 pub key_other :
     (k : ℕ) (key ks others : List Kind) (row : Row) (bytes : List ℕ) → key ≡ take k ks → kinds_of row ≡ ks
     → kinds_of (row_of others bytes) ≡ others → has_row others bytes ≡ true → take k (kinds_of row) ≡ take k (kinds_of (row_of others bytes))
     → (has_row key bytes ≡ true) × (row_of key bytes ≡ take k (row_of others bytes))
 key_other k key ks others row bytes is held others_held has same =
     let first : key ≡ take k (kinds_of row) = is ∙ ap (λ (x : List Kind). take k x) (sym held) in
-    key_front key k others bytes (first ∙ same ∙ ap (λ (x : List Kind). take k x) others_held) has
+    key_prefix key k others bytes (first ∙ same ∙ ap (λ (x : List Kind). take k x) others_held) has
 
 pub cmp_same : (r : Ordering) (a b row other : Row) → r ≡ row_cmp a b → a ≡ row → b ≡ other → r ≡ row_cmp row other
 cmp_same r a b row other e f g = e ∙ ap (λ (x : Row). row_cmp x b) f ∙ ap (λ (x : Row). row_cmp row x) g

@@ -1,11 +1,11 @@
 -- Rows have one spelling, and none begins another.
 use Rattle.std.proofs.Common.{◌≡◌, ℕ, ◌+◌, ◌*◌, ◌≤◌, List, [], ◌∷◌, ◌++◌, suc, length, take, drop, refl, sym, subst, ap, ◌∙◌, length-append, arith}
 use Rattle.std.proofs.lemmas.List.{take_at, take-append-drop, length-take-le}
-use Rattle.dia_defs.specs.declared.kind.Kind.{Kind}
-use Rattle.dia_defs.specs.declared.kind.Kind.TheVariants.{Int, Text}
+use Rattle.row_defs.specs.declared.kind.Kind.{Kind}
+use Rattle.row_defs.specs.declared.kind.Kind.TheVariants.{Int, Text}
 use Rattle.std.specs.Prelude.{All}
 use Rattle.std.proofs.lemmas.List.Elements.{All-nil, All-cons}
-use Rattle.dia_defs.specs.Rows.{Cell, int, text, kind_of, kinds_of, Fits, Row, IsField, IsRow, bytes_of_u64, bytes_of_u32}
+use Rattle.row_defs.specs.Rows.{Cell, int, text, kind_of, kinds_of, Fits, Row, IsField, IsRow, bytes_of_u64, bytes_of_u32}
 use Rattle.dia_item.specs.Reading.{row_of}
 use Rattle.dia_item.specs.Sizes.{longest_field}
 use Rattle.dia_item.specs.Laws.{HaveTheirKinds, HaveSpellings, AreSpelledOnce, AreNoPrefixes, AreReadAgain}
@@ -76,21 +76,21 @@ no_prefixes kinds bytes rest longer more row other h g e =
     let same : row ≡ other = sym (row_reads kinds bytes rest row h) ∙ ap (row_of kinds) e ∙ row_reads kinds longer more other g in
     (row_bytes_are kinds bytes row h ∙ ap row_bytes same ∙ sym (row_bytes_are kinds longer other g), same)
 
--- one row at the front of the bytes, of one length
-pub front_once :
+-- one row at the beginning of the bytes, of one length
+pub prefix_once :
     (kinds : List Kind) (bytes : List ℕ) (n m : ℕ) (row other : Row) → n ≤ length bytes → m ≤ length bytes
     → IsRow kinds (take n bytes) row → IsRow kinds (take m bytes) other → (row ≡ other) × (n ≡ m)
-front_once kinds bytes n m row other n_in m_in h g =
+prefix_once kinds bytes n m row other n_in m_in h g =
     let whole : take n bytes ++ drop n bytes ≡ take m bytes ++ drop m bytes = take-append-drop n bytes ∙ sym (take-append-drop m bytes) in
     let both = no_prefixes kinds (take n bytes) (drop n bytes) (take m bytes) (drop m bytes) row other h g whole in
     (both.1, sym (length-take-le n bytes n_in) ∙ ap (λ (xs : List ℕ). length xs) both.0 ∙ length-take-le m bytes m_in)
 
 pub read_again : AreReadAgain
 read_again kinds bytes rest row h =
-    let front : take (length bytes) (bytes ++ rest) ≡ bytes = take_at bytes rest (length bytes) refl in
+    let prefix : take (length bytes) (bytes ++ rest) ≡ bytes = take_at bytes rest (length bytes) refl in
     let P : List ℕ → Type 0 = λ xs. IsRow kinds xs row in
-    let again : IsRow kinds (take (length bytes) (bytes ++ rest)) row = subst P (sym front) h in
-    (again, λ n other n_in g. front_once kinds (bytes ++ rest) n (length bytes) other row n_in (omega (arith, length-append bytes rest)) g again)
+    let again : IsRow kinds (take (length bytes) (bytes ++ rest)) row = subst P (sym prefix) h in
+    (again, λ n other n_in g. prefix_once kinds (bytes ++ rest) n (length bytes) other row n_in (omega (arith, length-append bytes rest)) g again)
 
 -- how long rows are
 field_short : (kind : Kind) (bytes : List ℕ) (cell : Cell) → IsField kind bytes cell → length bytes ≤ longest_field

@@ -4,7 +4,7 @@ use Rattle.std.specs.Int.{w32, w64, to_le_bytes, from_le_bytes}
 use Rattle.std.proofs.lemmas.Bool.{cases_lt}
 use Rattle.std.proofs.lemmas.List.{take_at, length-take, length-take-le, get_or-take, get_or_past}
 use Rattle.std.proofs.lemmas.Nat.{le_bytes_4, le_bytes_8, from_le_bytes-to_le_bytes_4, from_le_bytes-to_le_bytes_8}
-use Rattle.dia_defs.specs.Rows.{bytes_of_u64, bytes_of_u32}
+use Rattle.row_defs.specs.Rows.{bytes_of_u64, bytes_of_u32}
 use Rattle.dia_item.specs.Reading.{u64_of, u32_of}
 
 abbrev pub IsBytes : List ℕ → Type 0

@@ -2,13 +2,13 @@
 use Rattle.std.proofs.Common.{◌≡◌, ℕ, ◌+◌, ◌≤◌, List, [], ◌∷◌, ◌++◌, length, take, drop, suc, Option, Some, None, IfSome, get_or, refl, sym, ap, subst, ◌∙◌, append_assoc, append-nil, length-append, arith}
 use Rattle.std.proofs.lemmas.List.{take_at, drop_at, take-append-drop}
 use Rattle.std.proofs.Math.Seq.{take-add}
-use Rattle.dia_defs.specs.declared.kind.Kind.{Kind}
-use Rattle.dia_defs.specs.declared.kind.Kind.TheVariants.{Int, Text}
-use Rattle.dia_defs.specs.Rows.{Cell, int, text, kind_of, kinds_of, Row, IsField, IsRow}
+use Rattle.row_defs.specs.declared.kind.Kind.{Kind}
+use Rattle.row_defs.specs.declared.kind.Kind.TheVariants.{Int, Text}
+use Rattle.row_defs.specs.Rows.{Cell, int, text, kind_of, kinds_of, Row, IsField, IsRow}
 use Rattle.dia_item.specs.Reading.{cell_len, cell_at, row_of}
 use Rattle.dia_item.proofs.Fields.{field_reads}
 
--- the parts of a row at the front of the bytes
+-- the parts of a row at the beginning of the bytes
 parts_of : (n : ℕ) (bytes first rest : List ℕ) → take n bytes ≡ first ++ rest → bytes ≡ first ++ (rest ++ drop n bytes)
 parts_of n bytes first rest e = sym (take-append-drop n bytes) ∙ ap (λ (xs : List ℕ). xs ++ drop n bytes) e ∙ append_assoc first rest (drop n bytes)
 
@@ -20,15 +20,15 @@ unfolding row_of
 row_found kind kinds bytes f m e field rest =
     (cell_at kind bytes, row_of kinds (drop f bytes), take f bytes, take m (drop f bytes), field, rest, rw (← e) refl, take-add f m bytes)
 
-pub no_front :
+pub no_prefix :
     (kind : Kind) (kinds : List Kind) (bytes : List ℕ)
     → ((cell : Cell) (n : ℕ) → IsField kind (take n bytes) cell → ⊥)
     → (row : Row) (n : ℕ) → IsRow (kind ∷ kinds) (take n bytes) row → ⊥
-no_front kind kinds bytes none row n h =
+no_prefix kind kinds bytes none row n h =
     let e : bytes ≡ h.2 ++ (h.3 ++ drop n bytes) = parts_of n bytes h.2 h.3 h.7 in
-    let front : take (length h.2) bytes ≡ h.2 = ap (λ (xs : List ℕ). take (length h.2) xs) e ∙ take_at h.2 (h.3 ++ drop n bytes) (length h.2) refl in
+    let prefix : take (length h.2) bytes ≡ h.2 = ap (λ (xs : List ℕ). take (length h.2) xs) e ∙ take_at h.2 (h.3 ++ drop n bytes) (length h.2) refl in
     let P : List ℕ → Type 0 = λ xs. IsField kind xs h.0 in
-    none h.0 (length h.2) (subst P (sym front) h.4)
+    none h.0 (length h.2) (subst P (sym prefix) h.4)
 
 pub no_back :
     (kind : Kind) (kinds : List Kind) (bytes : List ℕ) (f : ℕ)
@@ -40,9 +40,9 @@ no_back kind kinds bytes f is none row n h =
     let reads = field_reads kind h.2 (h.3 ++ drop n bytes) h.0 h.4 in
     let len : f ≡ length h.2 = is ∙ ap (cell_len kind) e ∙ reads.len in
     let back : drop f bytes ≡ h.3 ++ drop n bytes = ap (λ (xs : List ℕ). drop f xs) e ∙ drop_at h.2 (h.3 ++ drop n bytes) f (sym len) in
-    let front : take (length h.3) (drop f bytes) ≡ h.3 = ap (λ (xs : List ℕ). take (length h.3) xs) back ∙ take_at h.3 (drop n bytes) (length h.3) refl in
+    let prefix : take (length h.3) (drop f bytes) ≡ h.3 = ap (λ (xs : List ℕ). take (length h.3) xs) back ∙ take_at h.3 (drop n bytes) (length h.3) refl in
     let P : List ℕ → Type 0 = λ xs. IsRow kinds xs h.1 in
-    none h.1 (length h.3) (subst P (sym front) h.5)
+    none h.1 (length h.3) (subst P (sym prefix) h.5)
 
 -- what spells a row is read as this row, whatever follows it
 pub row_reads : (kinds : List Kind) (bytes rest : List ℕ) (row : Row) → IsRow kinds bytes row → row_of kinds (bytes ++ rest) ≡ row
@@ -78,26 +78,26 @@ length-row_of [] bytes = refl
 length-row_of (kind ∷ kinds) bytes = ap suc (length-row_of kinds (drop (cell_len kind bytes) bytes))
 
 -- the first field of a row, and the others
-pub record Front (kind : Kind) (kinds : List Kind) (bytes : List ℕ) : Type 0 where
+pub record Prefix (kind : Kind) (kinds : List Kind) (bytes : List ℕ) : Type 0 where
   pub len : cell_len kind bytes ≤ length bytes
   pub field : IsField kind (take (cell_len kind bytes) bytes) (cell_at kind bytes)
   pub rest : IsRow kinds (drop (cell_len kind bytes) bytes) (row_of kinds (drop (cell_len kind bytes) bytes))
 
-pub front_of : (kind : Kind) (kinds : List Kind) (bytes : List ℕ) (row : Row) → IsRow (kind ∷ kinds) bytes row → Front kind kinds bytes
-front_of kind kinds bytes row h =
+pub prefix_of : (kind : Kind) (kinds : List Kind) (bytes : List ℕ) (row : Row) → IsRow (kind ∷ kinds) bytes row → Prefix kind kinds bytes
+prefix_of kind kinds bytes row h =
     let reads = field_reads kind h.2 h.3 h.0 h.4 in
     let len : cell_len kind bytes ≡ length h.2 = ap (cell_len kind) h.7 ∙ reads.len in
     let value : cell_at kind bytes ≡ h.0 = ap (cell_at kind) h.7 ∙ reads.value in
-    let front : take (cell_len kind bytes) bytes ≡ h.2 = ap (λ (xs : List ℕ). take (cell_len kind bytes) xs) h.7 ∙ take_at h.2 h.3 _ (sym len) in
+    let prefix : take (cell_len kind bytes) bytes ≡ h.2 = ap (λ (xs : List ℕ). take (cell_len kind bytes) xs) h.7 ∙ take_at h.2 h.3 _ (sym len) in
     let back : drop (cell_len kind bytes) bytes ≡ h.3 = ap (λ (xs : List ℕ). drop (cell_len kind bytes) xs) h.7 ∙ drop_at h.2 h.3 _ (sym len) in
     record {
       len = omega (arith, len, ap length h.7, length-append h.2 h.3);
-      field = rw (front, value) h.4;
+      field = rw (prefix, value) h.4;
       rest = rw (back, row_is kinds h.3 h.1 h.5) h.5;
     }
 
-pub front_is_row : (kinds : List Kind) (bytes : List ℕ) (n : ℕ) → IsRow kinds (take n bytes) (row_of kinds bytes) → IsRow kinds (take n bytes) (row_of kinds (take n bytes))
-front_is_row kinds bytes n h = rw (row_is kinds (take n bytes) (row_of kinds bytes) h) h
+pub prefix_is_row : (kinds : List Kind) (bytes : List ℕ) (n : ℕ) → IsRow kinds (take n bytes) (row_of kinds bytes) → IsRow kinds (take n bytes) (row_of kinds (take n bytes))
+prefix_is_row kinds bytes n h = rw (row_is kinds (take n bytes) (row_of kinds bytes) h) h
 
 one_kind : (kinds : List Kind) → length kinds ≡ 1 → kinds ≡ get_or kinds 0 Int ∷ []
 one_kind [] e = absurd (omega arith)

@@ -3,13 +3,13 @@ use Rattle.std.proofs.Common.{◌≡◌, ℕ, ◌+◌, ◌≤◌, Bool, true, fa
 use Rattle.std.specs.Prelude.{nat_le, nat_eq}
 use Rattle.std.proofs.lemmas.Bool.Decides.{nat_tests}
 use Rattle.std.proofs.lemmas.List.{take-append-drop, length-drop, length-take-le, get_or-drop}
-use Rattle.dia_defs.specs.declared.kind.Kind.{Kind}
-use Rattle.dia_defs.specs.declared.kind.Kind.TheVariants.{Int, Text}
-use Rattle.dia_defs.specs.Rows.{Row, IsField, IsRow}
+use Rattle.row_defs.specs.declared.kind.Kind.{Kind}
+use Rattle.row_defs.specs.declared.kind.Kind.TheVariants.{Int, Text}
+use Rattle.row_defs.specs.Rows.{Row, IsField, IsRow}
 use Rattle.dia_item.specs.Reading.{cell_len, cell_at, row_of, has_field, has_row, is_row, u32_of}
 use Rattle.dia_item.proofs.Numbers.{IsBytes}
 use Rattle.dia_item.proofs.Fields.{int_field, text_field}
-use Rattle.dia_item.proofs.RowLemmas.{front_of}
+use Rattle.dia_item.proofs.RowLemmas.{prefix_of}
 
 pub IsBytes-drop : (n : ℕ) (bytes : List ℕ) → IsBytes bytes → IsBytes (drop n bytes)
 IsBytes-drop n bytes h i = rw get_or-drop (h (n + i))
@@ -66,7 +66,7 @@ pub test_of_row : (kinds : List Kind) (bytes : List ℕ) (row : Row) → IsRow k
 unfolding is_row row_of
 test_of_row [] bytes row h = rw h.0 refl
 test_of_row (kind ∷ kinds) bytes row h =
-    let f = front_of kind kinds bytes row h in
+    let f = prefix_of kind kinds bytes row h in
     rw (test_of_field kind bytes f.len f.field, test_of_row kinds (drop (cell_len kind bytes) bytes) _ f.rest) refl
 
 pub has_of_test : (kinds : List Kind) (bytes : List ℕ) → is_row kinds bytes ≡ true → has_row kinds bytes ≡ true
@@ -77,8 +77,8 @@ has_of_test (kind ∷ kinds) bytes e =
     rw (p.0, has_of_test kinds (drop (cell_len kind bytes) bytes) p.1) refl
 
 -- the first field, and the others
-pub front_has :
+pub prefix_has :
     (kind : Kind) (kinds : List Kind) (bytes : List ℕ) → has_row (kind ∷ kinds) bytes ≡ true
     → (has_field kind bytes ≡ true) × (has_row kinds (drop (cell_len kind bytes) bytes) ≡ true)
 unfolding has_row
-front_has kind kinds bytes e = and_split _ _ e
+prefix_has kind kinds bytes e = and_split _ _ e

@@ -1,5 +1,5 @@
 -- What a borrowed field holds.
-use Rattle.dia_defs.specs.Rows.{Cell, int, text}
+use Rattle.row_defs.specs.Rows.{Cell, int, text}
 use Rattle.dia_item.specs.declared.field.Field.{Field}
 use Rattle.dia_item.specs.declared.field.Field.TheVariants.{Int, Text}
 

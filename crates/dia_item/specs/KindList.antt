@@ -1,6 +1,6 @@
 -- The kinds that a `Kinds` holds.
 use Rattle.std.specs.Prelude.{List, [], take, Option, Some, None}
-use Rattle.dia_defs.specs.declared.kind.Kind.{Kind}
+use Rattle.row_defs.specs.declared.kind.Kind.{Kind}
 use Rattle.dia_item.specs.declared.kinds.Kinds.{Kinds}
 
 abbrev pub kind_list : Kinds → List Kind

@@ -1,7 +1,7 @@
 -- What the encoding of rows keeps, for all kinds, bytes and rows.
 use Rattle.std.specs.Prelude.{◌≡◌, ◌≤◌, List, ◌++◌, ℕ, length, take, All}
-use Rattle.dia_defs.specs.declared.kind.Kind.{Kind}
-use Rattle.dia_defs.specs.Rows.{Row, IsRow, kinds_of, Fits}
+use Rattle.row_defs.specs.declared.kind.Kind.{Kind}
+use Rattle.row_defs.specs.Rows.{Row, IsRow, kinds_of, Fits}
 
 -- a row has the kinds that it is read with, and its cells fit
 abbrev pub HaveTheirKinds : Type 0

@@ -1,9 +1,10 @@
--- What the bytes hold, read from their front: words of the representation alone, which `IsRow` stands above.
+-- What the bytes hold, read from their beginning: words of the representation alone, which `IsRow` stands above.
 use Rattle.std.specs.Prelude.{Bool, true, ◌&&◌, nat_le, nat_eq, ℕ, ◌+◌, List, [], ◌∷◌, length, take, drop}
 use Rattle.std.specs.Int.{w32, w64, from_le_bytes}
-use Rattle.dia_defs.specs.declared.kind.Kind.{Kind}
-use Rattle.dia_defs.specs.declared.kind.Kind.TheVariants.{Int, Text}
-use Rattle.dia_defs.specs.Rows.{Cell, int, text, Row, longest_text}
+use Rattle.row_defs.specs.declared.kind.Kind.{Kind}
+use Rattle.row_defs.specs.declared.kind.Kind.TheVariants.{Int, Text}
+use Rattle.row_defs.specs.Rows.{Cell, int, text, Row}
+use Rattle.row_defs.specs.Limits.{longest_text}
 
 -- the number that the first 8 or 4 bytes spell
 unfoldable pub u64_of : List ℕ → ℕ
@@ -12,7 +13,7 @@ u64_of bytes = from_le_bytes w64 (take 8 bytes)
 unfoldable pub u32_of : List ℕ → ℕ
 u32_of bytes = from_le_bytes w32 (take 4 bytes)
 
--- the field at the front of the bytes, and how many bytes it has
+-- the field at the beginning of the bytes, and how many bytes it has
 abbrev pub cell_len : Kind → List ℕ → ℕ
 cell_len Int bytes = 8
 cell_len Text bytes = 4 + u32_of bytes
@@ -21,7 +22,7 @@ abbrev pub cell_at : Kind → List ℕ → Cell
 cell_at Int bytes = int (u64_of bytes)
 cell_at Text bytes = text (take (u32_of bytes) (drop 4 bytes))
 
--- the row at the front of the bytes
+-- the row at the beginning of the bytes
 unfoldable pub row_of : List Kind → List ℕ → Row
 row_of [] bytes = []
 row_of (kind ∷ kinds) bytes = cell_at kind bytes ∷ row_of kinds (drop (cell_len kind bytes) bytes)

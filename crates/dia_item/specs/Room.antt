@@ -1,7 +1,7 @@
 -- A buffer with room for every row.
 use Rattle.std.specs.Prelude.{◌*◌, ◌≤◌, length, vec_capacity}
 use Rattle.dia_item.specs.declared.row_buf.RowBuf.TheInside.{Inside}
-use Rattle.dia_defs.specs.Rows.{Row, IsRow}
+use Rattle.row_defs.specs.Rows.{Row, IsRow}
 use Rattle.dia_item.specs.Reading.{row_of}
 use Rattle.dia_item.specs.Sizes.{longest_field, longest_row}
 use Rattle.dia_item.specs.KindList.{kinds_in}

@@ -1,6 +1,6 @@
 -- How large a row can be.
 use Rattle.std.specs.Prelude.{ℕ, ◌+◌, ◌*◌}
-use Rattle.dia_defs.specs.Rows.{longest_text}
+use Rattle.row_defs.specs.Limits.{longest_text}
 
 -- the bytes of the longest field: the 4 of its length, and its own
 abbrev pub longest_field : ℕ

@@ -1,8 +1,5 @@
 //! Fields.
 
-/// How many bytes a text has at most.
-pub const LONGEST_TEXT: usize = 65_536;
-
 /// What a field holds; a text is borrowed from the row's bytes.
 #[derive(Clone, Copy, Debug, PartialEq, Eq)]
 pub enum Field<'a> {

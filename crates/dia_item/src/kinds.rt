@@ -1,10 +1,9 @@
 //! The kinds of a row.
 ghost use Rattle.std.specs.Prelude.{◌≤◌, ◌<◌};
+ghost use Rattle.row_defs.specs.Limits.{most_columns};
 
-use dia_defs::Kind;
-
-/// How many columns a row has at most.
-pub const MOST_COLUMNS: usize = 6;
+use row_defs::Kind;
+use row_defs::limits::MOST_COLUMNS;
 
 /// From one to six kinds, those of a row's columns in order.
 #[derive(Clone, Copy)]
@@ -12,7 +11,7 @@ pub struct Kinds {
     all: [Kind; MOST_COLUMNS],
     count: usize,
     ghost some: { 0 < count },
-    ghost most: { count ≤ 6 },
+    ghost most: { count ≤ most_columns },
 }
 
 impl Kinds {
@@ -22,7 +21,7 @@ impl Kinds {
     /// These kinds; None where there are none of them, or more than six.
     pub fn new(kinds: &[Kind]) -> Option<Kinds>
         ensures list { IfSome result (λ k. kind_list k ≡ kinds.now) }
-        ensures some { IsSome result ↔ ((0 < length kinds.now) × (length kinds.now ≤ 6)) }
+        ensures some { IsSome result ↔ ((0 < length kinds.now) × (length kinds.now ≤ MOST_COLUMNS)) }
     {
         if kinds.is_empty() || kinds.len() > MOST_COLUMNS {
             return None;
@@ -55,7 +54,7 @@ impl Kinds {
     /// One more kind.
     #[inline]
     pub(crate) fn push(&mut self, kind: Kind)
-        requires { length (kind_list self.old) < 6 }
+        requires { length (kind_list self.old) < MOST_COLUMNS }
         ensures { kind_list self.new ≡ kind_list self.old ++ kind ∷ [] }
     {
         self.all[self.count] = kind;
@@ -64,7 +63,7 @@ impl Kinds {
 
     /// These kinds and one more.
     pub fn and(&self, kind: Kind) -> Kinds
-        requires { length (kind_list self.now) < 6 }
+        requires { length (kind_list self.now) < MOST_COLUMNS }
         ensures { kind_list result ≡ kind_list self.now ++ kind ∷ [] }
     {
         let mut kinds = *self;
@@ -77,7 +76,7 @@ impl Kinds {
     pub fn list(&self) -> &[Kind]
         ensures list { result.now ≡ kind_list self.now }
         ensures some { 0 < length result.now }
-        ensures most { length result.now ≤ 6 }
+        ensures most { length result.now ≤ MOST_COLUMNS }
     {
         &self.all[..self.count]
     }

@@ -1,6 +1,6 @@
 //! The order of rows.
 ghost use Rattle.std.specs.Prelude.{◌≡◌, ◌≤◌, true, length, take};
-ghost use Rattle.dia_defs.specs.Rows.{kinds_of, key_of, cell_cmp, row_cmp};
+ghost use Rattle.row_defs.specs.Rows.{kinds_of, key_of, cell_cmp, row_cmp};
 ghost use Rattle.dia_item.specs.Reading.{row_of, has_row};
 ghost use Rattle.dia_item.specs.Fields.{cell_of};
 ghost use Rattle.dia_item.specs.Lent.{row_in_ref};
@@ -8,7 +8,7 @@ ghost use Rattle.dia_item.specs.Lent.{row_in_ref};
 use crate::field::Field;
 use crate::read::split_field;
 use crate::row_ref::{RowRef, known};
-use dia_defs::Kind;
+use row_defs::Kind;
 use std::cmp::Ordering;
 
 #[inline]
@@ -23,7 +23,7 @@ fn compare_cells(a: Field<'_>, b: Field<'_>) -> Ordering
     }
 }
 
-/// The order of the rows of these kinds at the front of `a` and of `b`.
+/// The order of the rows of these kinds at the beginning of `a` and of `b`.
 fn compare_fields(kinds: &[Kind], a: &[u8], b: &[u8]) -> Ordering
     requires a { has_row kinds.now a.now ≡ true }
     requires b { has_row kinds.now b.now ≡ true }

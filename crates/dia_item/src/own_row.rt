@@ -16,7 +16,7 @@ pub struct OwnRow {
 
 impl Model for OwnRow {
     ghost use Rattle.std.specs.Prelude.{◌≡◌, true};
-    ghost use Rattle.dia_defs.specs.Rows.{Row};
+    ghost use Rattle.row_defs.specs.Rows.{Row};
     ghost use Rattle.dia_item.specs.Reading.{is_row, row_of};
     ghost use Rattle.dia_item.specs.KindList.{kind_list};
 

@@ -1,15 +1,16 @@
-//! Fields and rows at the front of bytes.
+//! Fields and rows at the beginning of bytes.
 ghost use Rattle.std.specs.Prelude.{◌≡◌, ◌≤◌, ◌+◌, ◌++◌, ◌∷◌, [], true, ℕ, List, IfSome, IfNone, take, drop, length};
-ghost use Rattle.dia_defs.specs.Rows.{Cell, Row, IsField, IsRow, Fits};
+ghost use Rattle.row_defs.specs.Rows.{Cell, Row, IsField, IsRow, Fits};
 ghost use Rattle.dia_item.specs.Reading.{u32_of, u64_of, cell_len, cell_at, row_of, has_field};
 ghost use Rattle.dia_item.specs.Fields.{cell_of};
 
-use crate::field::{Field, LONGEST_TEXT};
-use dia_defs::Kind;
+use crate::field::Field;
+use row_defs::Kind;
+use row_defs::limits::LONGEST_TEXT;
 
 #[inline]
 #[tactic(auto, unfolding(crate::specs::Reading::u32_of))]
-fn u32_at_front(bytes: &[u8]) -> u32
+fn u32_at_prefix(bytes: &[u8]) -> u32
     requires { 4 ≤ length bytes.now }
     ensures { result ≡ u32_of bytes.now }
 {
@@ -18,7 +19,7 @@ fn u32_at_front(bytes: &[u8]) -> u32
 
 #[inline]
 #[tactic(auto, unfolding(crate::specs::Reading::u64_of))]
-fn u64_at_front(bytes: &[u8]) -> u64
+fn u64_at_prefix(bytes: &[u8]) -> u64
     requires { 8 ≤ length bytes.now }
     ensures { result ≡ u64_of bytes.now }
 {
@@ -27,7 +28,7 @@ fn u64_at_front(bytes: &[u8]) -> u64
     ])
 }
 
-/// How many bytes the field at the front has; None where the bytes begin with no field of this kind.
+/// How many bytes the field at the beginning has; None where the bytes begin with no field of this kind.
 #[inline]
 fn field_len(kind: Kind, bytes: &[u8]) -> Option<usize>
     ensures len { IfSome result (λ n. (n ≤ length bytes.now) × (n ≡ cell_len kind bytes.now)) }
@@ -45,7 +46,7 @@ fn field_len(kind: Kind, bytes: &[u8]) -> Option<usize>
             if bytes.len() < 4 {
                 return None;
             }
-            let n = u32_at_front(bytes) as usize;
+            let n = u32_at_prefix(bytes) as usize;
             if n > LONGEST_TEXT || bytes.len() - 4 < n {
                 return None;
             }
@@ -54,7 +55,7 @@ fn field_len(kind: Kind, bytes: &[u8]) -> Option<usize>
     }
 }
 
-/// How many bytes the row at the front has; None where the bytes begin with no row of these kinds. A row of one column,
+/// How many bytes the row at the beginning has; None where the bytes begin with no row of these kinds. A row of one column,
 /// as a line is, takes the short way.
 #[inline]
 pub(crate) fn row_len(kinds: &[Kind], bytes: &[u8]) -> Option<usize>
@@ -89,7 +90,7 @@ fn fields_len(kinds: &[Kind], bytes: &[u8]) -> Option<usize>
     }
 }
 
-/// The field at the front, and the bytes behind it.
+/// The field at the beginning, and the bytes behind it.
 #[inline]
 pub(crate) fn split_field(kind: Kind, bytes: &[u8]) -> (Field<'_>, &[u8])
     requires { has_field kind bytes.now ≡ true }
@@ -100,10 +101,10 @@ pub(crate) fn split_field(kind: Kind, bytes: &[u8]) -> (Field<'_>, &[u8])
     match kind {
         Kind::Int => {
             let (_, rest) = bytes.split_at(8);
-            (Field::Int(u64_at_front(bytes)), rest)
+            (Field::Int(u64_at_prefix(bytes)), rest)
         }
         Kind::Text => {
-            let n = u32_at_front(bytes) as usize;
+            let n = u32_at_prefix(bytes) as usize;
             let (_, after) = bytes.split_at(4);
             let (text, rest) = after.split_at(n);
             (Field::Text(text), rest)

@@ -1,6 +1,6 @@
-//! Reads a row at the front of bytes.
+//! Reads a row at the beginning of bytes.
 ghost use Rattle.std.specs.Prelude.{◌≡◌, ◌≤◌, ℕ, IfSome, IfNone, take, length};
-ghost use Rattle.dia_defs.specs.Rows.{Row, IsRow};
+ghost use Rattle.row_defs.specs.Rows.{Row, IsRow};
 ghost use Rattle.dia_item.specs.KindList.{kind_list};
 ghost use Rattle.dia_item.specs.Lent.{row_in_ref};
 
@@ -21,11 +21,11 @@ pub fn read_row<'a>(kinds: &Kinds, bytes: &'a [u8]) -> Option<(RowRef<'a>, usize
     let Some(n) = row_len(kinds.list(), bytes) else {
         return None;
     };
-    let (front, _) = bytes.split_at(n);
+    let (prefix, _) = bytes.split_at(n);
     Some((
         RowRef {
             kinds: *kinds,
-            bytes: front,
+            bytes: prefix,
         },
         n,
     ))

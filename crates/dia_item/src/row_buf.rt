@@ -2,13 +2,14 @@
 ghost use Rattle.std.specs.Prelude.{◌≡◌, ◌≤◌, ◌<◌, ◌+◌, ◌++◌, ◌∷◌, [], IfOk, length, vec_len, vec_capacity};
 ghost use Rattle.dia_item.specs.KindList.{kind_list, kinds_in};
 ghost use Rattle.dia_item.specs.Lent.{row_in_ref};
-ghost use Rattle.dia_defs.specs.Rows.{int, text, longest_text, bytes_of_u64, bytes_of_u32};
+ghost use Rattle.row_defs.specs.Rows.{int, text, bytes_of_u64, bytes_of_u32};
+ghost use Rattle.row_defs.specs.Limits.{longest_text};
 
-use crate::field::LONGEST_TEXT;
-use crate::kinds::{Kinds, MOST_COLUMNS};
+use crate::kinds::Kinds;
 use crate::row_ref::RowRef;
-use dia_defs::Kind;
 use dia_edge::NoMemory;
+use row_defs::Kind;
+use row_defs::limits::{LONGEST_TEXT, MOST_COLUMNS};
 use std::alloc::Global;
 use std::marker::Model;
 
@@ -23,7 +24,7 @@ pub struct RowBuf {
 }
 
 impl Model for RowBuf {
-    ghost use Rattle.dia_defs.specs.Rows.{Row};
+    ghost use Rattle.row_defs.specs.Rows.{Row};
 
     ghost Value = { Row };
 
@@ -36,7 +37,7 @@ impl Model for RowBuf {
 
 #[inline]
 fn push_kind(kinds: &mut Option<Kinds>, kind: Kind)
-    requires { length (kinds_in kinds.old) < 6 }
+    requires { length (kinds_in kinds.old) < MOST_COLUMNS }
     ensures { kinds_in kinds.new ≡ kinds_in kinds.old ++ kind ∷ [] }
 {
     match kinds {
@@ -71,7 +72,7 @@ fn append(bytes: &mut Vec<u8>, more: &[u8])
 }
 
 #[inline]
-#[tactic(auto, unfolding(dia_defs::specs::Rows::bytes_of_u64))]
+#[tactic(auto, unfolding(row_defs::specs::Rows::bytes_of_u64))]
 fn append_u64(bytes: &mut Vec<u8>, v: u64)
     requires { vec_len bytes.old + 8 ≤ vec_capacity bytes.old }
     ensures items { bytes.new.items ≡ bytes.old.items ++ bytes_of_u64 v }
@@ -81,7 +82,7 @@ fn append_u64(bytes: &mut Vec<u8>, v: u64)
 }
 
 #[inline]
-#[tactic(auto, unfolding(dia_defs::specs::Rows::bytes_of_u32))]
+#[tactic(auto, unfolding(row_defs::specs::Rows::bytes_of_u32))]
 fn append_u32(bytes: &mut Vec<u8>, v: u32)
     requires { vec_len bytes.old + 4 ≤ vec_capacity bytes.old }
     ensures items { bytes.new.items ≡ bytes.old.items ++ bytes_of_u32 v }
@@ -112,7 +113,7 @@ impl RowBuf {
 
     /// One more column, a number.
     pub fn push_int(&mut self, v: u64)
-        requires { length self.old < 6 }
+        requires { length self.old < MOST_COLUMNS }
         ensures { self.new ≡ self.old ++ int v ∷ [] }
     {
         push_kind(&mut self.kinds, Kind::Int);
@@ -121,7 +122,7 @@ impl RowBuf {
 
     /// One more column, a text.
     pub fn push_text(&mut self, t: &[u8])
-        requires columns { length self.old < 6 }
+        requires columns { length self.old < MOST_COLUMNS }
         requires short { length t.now ≤ longest_text }
         ensures { self.new ≡ self.old ++ text t.now ∷ [] }
     {

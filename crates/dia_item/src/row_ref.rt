@@ -1,6 +1,6 @@
 //! Rows that are borrowed.
 ghost use Rattle.std.specs.Prelude.{◌≡◌, ◌≤◌, ◌<◌, true, Some, length, drop, slice_get};
-ghost use Rattle.dia_defs.specs.Rows.{IsRow, kinds_of, Fits};
+ghost use Rattle.row_defs.specs.Rows.{IsRow, kinds_of, Fits};
 ghost use Rattle.dia_item.specs.Reading.{row_of, is_row, has_row};
 ghost use Rattle.dia_item.specs.Sizes.{longest_row};
 ghost use Rattle.dia_item.specs.Fields.{cell_of};
@@ -9,7 +9,8 @@ ghost use Rattle.dia_item.specs.KindList.{kind_list};
 use crate::field::Field;
 use crate::kinds::Kinds;
 use crate::read::split_field;
-use dia_defs::Kind;
+use row_defs::Kind;
+use row_defs::limits::MOST_COLUMNS;
 
 /// A row by its bytes, which belong to someone else. Contracts see the list of its cells, `row_in_ref`.
 #[derive(Clone, Copy)]
@@ -35,7 +36,7 @@ fn from_column<'a>(kinds: &[Kind], bytes: &'a [u8], i: usize) -> &'a [u8]
     rest
 }
 
-/// Field `i` of the row at the front.
+/// Field `i` of the row at the beginning.
 #[inline]
 fn field_at<'a>(kinds: &[Kind], bytes: &'a [u8], i: usize) -> Field<'a>
     requires is { has_row kinds.now bytes.now ≡ true }
@@ -51,7 +52,7 @@ fn field_at<'a>(kinds: &[Kind], bytes: &'a [u8], i: usize) -> Field<'a>
 #[inline]
 pub(crate) fn known(kinds: &[Kind], bytes: &[u8])
     requires is { is_row kinds.now bytes.now ≡ true }
-    requires most { length kinds.now ≤ 6 }
+    requires most { length kinds.now ≤ MOST_COLUMNS }
     ensures row { IsRow kinds.now bytes.now (row_of kinds.now bytes.now) }
     ensures kinds { kinds_of (row_of kinds.now bytes.now) ≡ kinds.now }
     ensures columns { length (row_of kinds.now bytes.now) ≡ length kinds.now }
@@ -61,7 +62,7 @@ pub(crate) fn known(kinds: &[Kind], bytes: &[u8])
 
 impl<'a> RowRef<'a> {
     ghost use Rattle.std.specs.Prelude.{◌≡◌, ◌≤◌, ◌<◌, Some, length, slice_get};
-    ghost use Rattle.dia_defs.specs.Rows.{IsRow, kinds_of, Fits};
+    ghost use Rattle.row_defs.specs.Rows.{IsRow, kinds_of, Fits};
     ghost use Rattle.dia_item.specs.Fields.{cell_of};
     ghost use Rattle.dia_item.specs.Sizes.{longest_row};
     ghost use Rattle.dia_item.specs.KindList.{kind_list};
@@ -91,7 +92,7 @@ impl<'a> RowRef<'a> {
     pub fn columns(&self) -> usize
         ensures len { result ≡ length (row_in_ref self.now) }
         ensures some { 0 < result }
-        ensures most { result ≤ 6 }
+        ensures most { result ≤ MOST_COLUMNS }
     {
         let kinds = self.kinds.list();
         known(kinds, self.bytes);

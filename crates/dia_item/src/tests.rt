@@ -1,8 +1,10 @@
 //! Worked rows.
 ghost use Rattle.std.specs.Prelude.{◌≡◌, ◌∷◌, [], ◌≤◌, length};
-ghost use Rattle.dia_defs.specs.Rows.{int, text, longest_text};
+ghost use Rattle.row_defs.specs.Rows.{int, text};
+ghost use Rattle.row_defs.specs.Limits.{longest_text};
 
-use crate::{Field, Kind, Kinds, LONGEST_TEXT, OwnRow, RowBuf, RowRef, compare, read_row};
+use crate::{Field, Kind, Kinds, OwnRow, RowBuf, RowRef, compare, read_row};
+use row_defs::limits::LONGEST_TEXT;
 use std::alloc::{AllocError, Global};
 use std::cmp::Ordering;
 use std::test::Fail;
@@ -30,8 +32,8 @@ fn fill(buffer: &mut RowBuf, t: &[u8], n: u64)
     buffer.push_int(n);
 }
 
-fn with_zeros(alloc: Global, front: &[u8]) -> Result<Vec<u8>, AllocError> {
-    let mut bytes = Vec::from_slice(alloc, front)?;
+fn with_zeros(alloc: Global, prefix: &[u8]) -> Result<Vec<u8>, AllocError> {
+    let mut bytes = Vec::from_slice(alloc, prefix)?;
     bytes.resize(2 * LONGEST_TEXT, 0)?;
     Ok(bytes)
 }

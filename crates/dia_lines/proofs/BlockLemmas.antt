@@ -1,6 +1,6 @@
 -- The rows of blocks.
 use Rattle.std.proofs.Common.{◌≡◌, ℕ, zero, suc, List, [], ◌∷◌, ◌++◌, take, sym, ap, ◌∙◌, append_assoc, append-nil, slice_get, Some}
-use Rattle.dia_defs.specs.Rows.{Row}
+use Rattle.row_defs.specs.Rows.{Row}
 use Rattle.dia_lines.specs.Blocks.{rows_of_blocks}
 
 pub rows_of_blocks-push : (blocks : List (List Row)) (block : List Row) → rows_of_blocks (blocks ++ block ∷ []) ≡ rows_of_blocks blocks ++ block

@@ -1,12 +1,12 @@
 -- How many rows bytes hold, and that each fits.
 use Rattle.std.proofs.Common.{◌≡◌, ℕ, zero, suc, List, [], ◌∷◌, ◌++◌, length, drop, refl, sym, ap, subst, ◌∙◌}
 use Rattle.std.specs.List.{AllByRecursion}
-use Rattle.dia_defs.specs.declared.kind.Kind.TheVariants.{Text}
-use Rattle.dia_defs.specs.Rows.{Cell, int, text, Row, Fits, IsField, IsRow}
+use Rattle.row_defs.specs.declared.kind.Kind.TheVariants.{Text}
+use Rattle.row_defs.specs.Rows.{Cell, int, text, Row, Fits, IsField, IsRow}
 use Rattle.dia_item.specs.Reading.{cell_len}
 use Rattle.dia_lines.specs.Texts.{one_text, rows_from, HoldsRows}
 use Rattle.dia_lines.specs.Fitting.{AllFit}
-use Rattle.dia_lines.proofs.TextLemmas.{rows_from-front}
+use Rattle.dia_lines.proofs.TextLemmas.{rows_from-prefix}
 
 pub rows_count : (n : ℕ) (bytes : List ℕ) → length (rows_from n bytes) ≡ n
 unfolding rows_from
@@ -31,7 +31,7 @@ pub rows_fit : (n : ℕ) (bytes : List ℕ) → HoldsRows n bytes → AllFit (ro
 rows_fit zero bytes h = none_fit bytes
 rows_fit (suc n) bytes h =
     let Fit : List Row → Type 0 = λ rows. AllFit rows in
-    let whole : rows_from (suc n) bytes ≡ h.2 ∷ rows_from n h.1 = ap (rows_from (suc n)) h.5 ∙ rows_from-front n h.0 h.1 h.2 h.3 in
+    let whole : rows_from (suc n) bytes ≡ h.2 ∷ rows_from n h.1 = ap (rows_from (suc n)) h.5 ∙ rows_from-prefix n h.0 h.1 h.2 h.3 in
     subst Fit (sym whole) (row_fits h.0 h.2 h.3, rows_fit n h.1 h.4)
 
 pub fit-append : (a b : List Row) → AllFit a → AllFit b → AllFit (a ++ b)

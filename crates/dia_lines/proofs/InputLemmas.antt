@@ -4,10 +4,11 @@ use Rattle.std.proofs.lemmas.List.{take_all}
 use Rattle.std.proofs.Math.Seq.{take-append-add, take-append_seam}
 use Rattle.std.proofs.lemmas.Bool.{and_parts, leb-true, le-leb, lt-ltb, le-ltb}
 use Rattle.std.specs.List.{list_all, position_from}
-use Rattle.dia_defs.specs.Rows.{Row, longest_text}
-use Rattle.dia_defs.specs.Pieces.{pieces_from, lines_of, line_rows}
-use Rattle.dia_defs.specs.Lists.{is_long, longest_input, line_too_long, input_too_long, block_of_input, block_of_long_line}
-use Rattle.dia_edge.specs.Shelves.{GivesFront, IsShut}
+use Rattle.row_defs.specs.Rows.{Row}
+use Rattle.row_defs.specs.Limits.{longest_text, longest_input}
+use Rattle.row_defs.specs.Pieces.{pieces_from, lines_of, line_rows}
+use Rattle.row_defs.specs.Inputs.{is_long, line_too_long, input_too_long, failure_of_input, failure_of_long_line}
+use Rattle.dia_edge.specs.Shelves.{GivesPrefix, IsShut}
 use Rattle.dia_lines.specs.declared.taker.Taker.{Taker}
 use Rattle.dia_lines.specs.declared.taker.TakeErr as take_errors
 use Rattle.dia_lines.specs.declared.taker.TakeErr.TheVariants as takes
@@ -42,23 +43,23 @@ free_input : (limit : ℕ) (bytes : List ℕ) → length bytes ≤ limit → lis
     → position_from is_long 1 (lines_of (take limit bytes)) ≡ None
 free_input limit bytes few all = ap (λ (xs : List ℕ). position_from is_long 1 (lines_of xs)) (take_all limit bytes few) ∙ no_long 1 (lines_of bytes) all
 
-pub block_free : (bytes : List ℕ) → length bytes ≤ longest_input → list_all is_text (lines_of bytes) ≡ true → block_of_input (Some bytes) ≡ None
+pub block_free : (bytes : List ℕ) → length bytes ≤ longest_input → list_all is_text (lines_of bytes) ≡ true → failure_of_input (Some bytes) ≡ None
 block_free bytes few all =
-    ap (λ (o : Option ℕ). block_of_long_line o bytes) (free_input longest_input bytes few all)
+    ap (λ (o : Option ℕ). failure_of_long_line o bytes) (free_input longest_input bytes few all)
     ∙ ap (λ (t : Bool). cond t (Some input_too_long) None) (le-ltb longest_input (length bytes) few)
 
-long_input : (limit n : ℕ) (front rest : List ℕ) → length front ≤ limit → IsLong n front
-    → position_from is_long 1 (lines_of (take limit (front ++ rest))) ≡ Some n
-long_input limit n front rest few is =
-    let cut = take-append-past limit front rest few in
-    let p = is.pieces (take (limit - length front) rest) in
+long_input : (limit n : ℕ) (prefix rest : List ℕ) → length prefix ≤ limit → IsLong n prefix
+    → position_from is_long 1 (lines_of (take limit (prefix ++ rest))) ≡ Some n
+long_input limit n prefix rest few is =
+    let cut = take-append-past limit prefix rest few in
+    let p = is.pieces (take (limit - length prefix) rest) in
     ap (λ (xs : List ℕ). position_from is_long 1 (lines_of xs)) cut
     ∙ ap (position_from is_long 1) p.3
     ∙ first_long 1 is.done p.0 p.1 is.texts p.2
     ∙ ap Some (let one : 1 + length is.done ≡ n = omega (arith, is.count) in one)
 
-pub block_long : (n : ℕ) (front rest : List ℕ) → length front ≤ longest_input → IsLong n front → block_of_input (Some (front ++ rest)) ≡ Some (line_too_long n)
-block_long n front rest few is = ap (λ (o : Option ℕ). block_of_long_line o (front ++ rest)) (long_input longest_input n front rest few is)
+pub block_long : (n : ℕ) (prefix rest : List ℕ) → length prefix ≤ longest_input → IsLong n prefix → failure_of_input (Some (prefix ++ rest)) ≡ Some (line_too_long n)
+block_long n prefix rest few is = ap (λ (o : Option ℕ). failure_of_long_line o (prefix ++ rest)) (long_input longest_input n prefix rest few is)
 
 past_input : (limit : ℕ) (seen rest : List ℕ) → length seen ≡ limit → list_all is_text (lines_of seen) ≡ true
     → position_from is_long 1 (lines_of (take limit (seen ++ rest))) ≡ None
@@ -66,10 +67,10 @@ past_input limit seen rest all texts =
     ap (λ (xs : List ℕ). position_from is_long 1 (lines_of xs)) (ap (λ (n : ℕ). take n (seen ++ rest)) (sym all) ∙ take-append_seam seen rest) ∙ no_long 1 (lines_of seen) texts
 
 pub block_past : (seen rest : List ℕ) → length seen ≡ longest_input → 0 < length rest → list_all is_text (lines_of seen) ≡ true
-    → block_of_input (Some (seen ++ rest)) ≡ Some input_too_long
+    → failure_of_input (Some (seen ++ rest)) ≡ Some input_too_long
 block_past seen rest all some texts =
     let len = length-append seen rest in
-    ap (λ (o : Option ℕ). block_of_long_line o (seen ++ rest)) (past_input longest_input seen rest all texts)
+    ap (λ (o : Option ℕ). failure_of_long_line o (seen ++ rest)) (past_input longest_input seen rest all texts)
     ∙ ap (λ (t : Bool). cond t (Some input_too_long) None) (lt-ltb longest_input (length (seen ++ rest)) (omega arith))
 
 -- the lines so far may all be texts, the last one too
@@ -85,63 +86,63 @@ seen_texts rows lines (b ∷ run) seen h short =
     subst All whole (list_all-push h.done (b ∷ run) h.texts (le-leb (length (b ∷ run)) longest_text short))
 
 -- one more piece
-front_more : (all left now : Option (List ℕ)) (seen piece : List ℕ) → GivesFront all seen left → GivesFront left piece now → GivesFront all (seen ++ piece) now
-front_more None left now seen piece a b = tt
-front_more (Some bytes) left now seen piece a b =
-    let Gives : Option (List ℕ) → Type 0 = λ o. GivesFront o piece now in
+prefix_more : (all left now : Option (List ℕ)) (seen piece : List ℕ) → GivesPrefix all seen left → GivesPrefix left piece now → GivesPrefix all (seen ++ piece) now
+prefix_more None left now seen piece a b = tt
+prefix_more (Some bytes) left now seen piece a b =
+    let Gives : Option (List ℕ) → Type 0 = λ o. GivesPrefix o piece now in
     let c = subst Gives a.2 b in
     (c.0, a.1 ∙ ap (λ (xs : List ℕ). seen ++ xs) c.1 ∙ sym (append_assoc seen piece c.0), c.2)
 
 pub reading_more : (all left now : Option (List ℕ)) (t u : Taker) (total n : ℕ) (piece : List ℕ) → IsReading all t total left
-    → GivesFront left piece now → length piece ≡ n → ((seen : List ℕ) → HasTaken t seen → HasTaken u (seen ++ piece)) → IsReading all u (total + n) now
+    → GivesPrefix left piece now → length piece ≡ n → ((seen : List ℕ) → HasTaken t seen → HasTaken u (seen ++ piece)) → IsReading all u (total + n) now
 reading_more all left now t u total n piece h gives len taken =
     let longer = length-append h.seen piece in
     record {
       seen = h.seen ++ piece;
       taken = taken h.seen h.taken;
       count = omega (arith, h.count);
-      front = front_more all left now h.seen piece h.front gives;
+      prefix = prefix_more all left now h.seen piece h.prefix gives;
     }
 
 -- a line of the piece is too long
 pub reading_long : (e : take_errors.TakeErr) (told : errors.InputErr) (all left now : Option (List ℕ)) (t : Taker) (total : ℕ) (piece : List ℕ)
-    → IsReading all t total left → GivesFront left piece now → total + length piece ≤ longest_input
+    → IsReading all t total left → GivesPrefix left piece now → total + length piece ≤ longest_input
     → ((seen : List ℕ) → HasTaken t seen → IsCut e seen piece) → IsReasonOf e told → IfSome all (λ bytes. IsInputReason told (Some bytes))
 reading_long e told None left now t total piece h gives few cut is = tt
 reading_long (takes.LineTooLong n) told (Some bytes) left now t total piece h gives few cut is =
-    let whole = front_more (Some bytes) left now h.seen piece h.front gives in
+    let whole = prefix_more (Some bytes) left now h.seen piece h.prefix gives in
     let c = cut h.seen h.taken in
-    let parts : bytes ≡ (h.seen ++ c.front) ++ (c.rest ++ whole.0) =
+    let parts : bytes ≡ (h.seen ++ c.prefix) ++ (c.rest ++ whole.0) =
     whole.1 ∙ ap (λ (xs : List ℕ). (h.seen ++ xs) ++ whole.0) c.parts
-    ∙ ap (λ (xs : List ℕ). xs ++ whole.0) (sym (append_assoc h.seen c.front c.rest))
-    ∙ append_assoc (h.seen ++ c.front) c.rest whole.0 in
-    let longer = length-append h.seen c.front in
-    let cut_len = ap length c.parts ∙ length-append c.front c.rest in
+    ∙ ap (λ (xs : List ℕ). xs ++ whole.0) (sym (append_assoc h.seen c.prefix c.rest))
+    ∙ append_assoc (h.seen ++ c.prefix) c.rest whole.0 in
+    let longer = length-append h.seen c.prefix in
+    let cut_len = ap length c.parts ∙ length-append c.prefix c.rest in
     let Reason : errors.InputErr → Type 0 = λ r. IsInputReason r (Some bytes) in
-    subst Reason (sym is) (ap (λ (xs : List ℕ). block_of_input (Some xs)) parts ∙ block_long n (h.seen ++ c.front) (c.rest ++ whole.0) (omega (arith, h.count)) c.reason)
+    subst Reason (sym is) (ap (λ (xs : List ℕ). failure_of_input (Some xs)) parts ∙ block_long n (h.seen ++ c.prefix) (c.rest ++ whole.0) (omega (arith, h.count)) c.reason)
 reading_long takes.NoMemory told (Some bytes) left now t total piece h gives few cut is =
     let Reason : errors.InputErr → Type 0 = λ r. IsInputReason r (Some bytes) in
     subst Reason (sym is) tt
 
 -- there is one more byte than an input may have
 pub reading_past : (all left now : Option (List ℕ)) (t : Taker) (total : ℕ) (piece : List ℕ)
-    → IsReading all t total left → total ≡ longest_input → GivesFront left piece now → 0 < length piece → length t.run.items ≤ longest_text
+    → IsReading all t total left → total ≡ longest_input → GivesPrefix left piece now → 0 < length piece → length t.run.items ≤ longest_text
     → IfSome all (λ bytes. IsInputReason InputTooLong (Some bytes))
 reading_past None left now t total piece h limit gives some short = tt
 reading_past (Some bytes) left now t total piece h limit gives some short =
-    let Gives : Option (List ℕ) → Type 0 = λ o. GivesFront o piece now in
-    let c = subst Gives h.front.2 gives in
+    let Gives : Option (List ℕ) → Type 0 = λ o. GivesPrefix o piece now in
+    let c = subst Gives h.prefix.2 gives in
     let rest_len = ap length c.1 ∙ length-append piece c.0 in
-    ap (λ (xs : List ℕ). block_of_input (Some xs)) h.front.1
-    ∙ block_past h.seen h.front.0 (h.count ∙ limit) (omega arith) (seen_texts t.rows t.lines t.run.items h.seen h.taken short)
+    ap (λ (xs : List ℕ). failure_of_input (Some xs)) h.prefix.1
+    ∙ block_past h.seen h.prefix.0 (h.count ∙ limit) (omega arith) (seen_texts t.rows t.lines t.run.items h.seen h.taken short)
 
-front_none : (left : Option (List ℕ)) → GivesFront left [] left
-front_none None = tt
-front_none (Some bytes) = (bytes, refl, refl)
+prefix_none : (left : Option (List ℕ)) → GivesPrefix left [] left
+prefix_none None = tt
+prefix_none (Some bytes) = (bytes, refl, refl)
 
 -- nothing was read
 pub reading_none : (t : Taker) (left : Option (List ℕ)) → HasTaken t [] → IsReading left t 0 left
-reading_none t left taken = record { seen = []; taken = taken; count = refl; front = front_none left }
+reading_none t left taken = record { seen = []; taken = taken; count = refl; prefix = prefix_none left }
 
 -- all was read
 pub reading_end : (all left : Option (List ℕ)) (t : Taker) (total : ℕ) (rows : List Row) → IsReading all t total left → total ≤ longest_input
@@ -149,8 +150,8 @@ pub reading_end : (all left : Option (List ℕ)) (t : Taker) (total : ℕ) (rows
 reading_end None left t total rows h few end read = tt
 reading_end (Some bytes) left t total rows h few end read =
     let Shut : Option (List ℕ) → Type 0 = IsShut in
-    let none = subst Shut h.front.2 end in
-    let same : bytes ≡ h.seen = h.front.1 ∙ ap (λ (xs : List ℕ). h.seen ++ xs) none ∙ append-nil h.seen in
+    let none = subst Shut h.prefix.2 end in
+    let same : bytes ≡ h.seen = h.prefix.1 ∙ ap (λ (xs : List ℕ). h.seen ++ xs) none ∙ append-nil h.seen in
     let r = read h.seen h.taken in
     let All : List ℕ → Type 0 = λ xs. list_all is_text (lines_of xs) ≡ true in
     let len = ap length same in

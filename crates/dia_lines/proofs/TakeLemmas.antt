@@ -3,8 +3,9 @@ use Rattle.std.proofs.Common.{◌≡◌, ℕ, ◌+◌, ◌<◌, ◌≤◌, true,
 use Rattle.std.proofs.lemmas.List.{map-append}
 use Rattle.std.proofs.lemmas.Bool.{and_parts, and_from, le-leb}
 use Rattle.std.specs.List.{list_all}
-use Rattle.dia_defs.specs.Rows.{Row, longest_text}
-use Rattle.dia_defs.specs.Pieces.{pieces_from, lines_of, line_row, line_feed}
+use Rattle.row_defs.specs.Rows.{Row}
+use Rattle.row_defs.specs.Limits.{longest_text}
+use Rattle.row_defs.specs.Pieces.{pieces_from, lines_of, line_row, line_feed}
 use Rattle.dia_text.specs.Unbroken.{IsUnbroken}
 use Rattle.dia_text.proofs.PieceLemmas.{pieces-at, pieces-begin}
 use Rattle.dia_lines.specs.Taking.{is_text, AreTaken, HasTaken, IsLong, IsTakeReason, Consumes, IsCut, AreRead}
@@ -84,37 +85,37 @@ taken_long rows lines run seen bytes h unbroken long = record {
 
 pub consumes_trans : (t u v : Taker) (bytes rest later : List ℕ) → Consumes t u bytes rest → Consumes u v rest later → Consumes t v bytes later
 consumes_trans t u v bytes rest later a b = record {
-  front = a.front ++ b.front;
-  parts = a.parts ∙ ap (λ (xs : List ℕ). a.front ++ xs) b.parts ∙ sym (append_assoc a.front b.front later);
+  prefix = a.prefix ++ b.prefix;
+  parts = a.parts ∙ ap (λ (xs : List ℕ). a.prefix ++ xs) b.parts ∙ sym (append_assoc a.prefix b.prefix later);
   taken = λ seen h.
       let Taken : List ℕ → Type 0 = λ xs. HasTaken v xs in
-      subst Taken (append_assoc seen a.front b.front) (b.taken (seen ++ a.front) (a.taken seen h));
+      subst Taken (append_assoc seen a.prefix b.prefix) (b.taken (seen ++ a.prefix) (a.taken seen h));
 }
 
 pub cut_after : (e : errors.TakeErr) (t u : Taker) (bytes rest : List ℕ) → Consumes t u bytes rest
     → ((seen : List ℕ) → HasTaken u seen → IsCut e seen rest) → (seen : List ℕ) → HasTaken t seen → IsCut e seen bytes
 cut_after e t u bytes rest a cut seen h =
-    let c = cut (seen ++ a.front) (a.taken seen h) in
+    let c = cut (seen ++ a.prefix) (a.taken seen h) in
     let Reason : List ℕ → Type 0 = λ xs. IsTakeReason e xs in
     record {
-      front = a.front ++ c.front;
+      prefix = a.prefix ++ c.prefix;
       rest = c.rest;
-      parts = a.parts ∙ ap (λ (xs : List ℕ). a.front ++ xs) c.parts ∙ sym (append_assoc a.front c.front c.rest);
-      reason = subst Reason (append_assoc seen a.front c.front) c.reason;
+      parts = a.parts ∙ ap (λ (xs : List ℕ). a.prefix ++ xs) c.parts ∙ sym (append_assoc a.prefix c.prefix c.rest);
+      reason = subst Reason (append_assoc seen a.prefix c.prefix) c.reason;
     }
 
 pub cut_whole : (e : errors.TakeErr) (seen bytes : List ℕ) → IsTakeReason e (seen ++ bytes) → IsCut e seen bytes
-cut_whole e seen bytes reason = record { front = bytes; rest = []; parts = sym (append-nil bytes); reason = reason }
+cut_whole e seen bytes reason = record { prefix = bytes; rest = []; parts = sym (append-nil bytes); reason = reason }
 
-pub cut_front : (e : errors.TakeErr) (seen bytes front rest : List ℕ) → bytes ≡ front ++ rest → IsTakeReason e (seen ++ front) → IsCut e seen bytes
-cut_front e seen bytes front rest parts reason = record { front = front; rest = rest; parts = parts; reason = reason }
+pub cut_prefix : (e : errors.TakeErr) (seen bytes prefix rest : List ℕ) → bytes ≡ prefix ++ rest → IsTakeReason e (seen ++ prefix) → IsCut e seen bytes
+cut_prefix e seen bytes prefix rest parts reason = record { prefix = prefix; rest = rest; parts = parts; reason = reason }
 
 pub consumes_all : (t u : Taker) (bytes : List ℕ) → ((seen : List ℕ) → HasTaken t seen → HasTaken u (seen ++ bytes)) → Consumes t u bytes []
-consumes_all t u bytes taken = record { front = bytes; parts = sym (append-nil bytes); taken = taken }
+consumes_all t u bytes taken = record { prefix = bytes; parts = sym (append-nil bytes); taken = taken }
 
 pub consumes_none : (t : Taker) (bytes : List ℕ) → Consumes t t bytes bytes
 consumes_none t bytes = record {
-  front = [];
+  prefix = [];
   parts = refl;
   taken = λ seen h. let Taken : List ℕ → Type 0 = λ xs. HasTaken t xs in subst Taken (sym (append-nil seen)) h;
 }

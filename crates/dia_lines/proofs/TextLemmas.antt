@@ -1,21 +1,22 @@
 -- Rows of one text, one after the other in bytes.
 use Rattle.std.proofs.Common.{◌≡◌, ℕ, zero, suc, ◌+◌, ◌-◌, ◌<◌, ◌≤◌, List, [], ◌∷◌, ◌++◌, length, take, drop, refl, sym, ap, subst, ◌∙◌, arith, append_assoc, append-nil, add-one, length-append}
 use Rattle.std.proofs.Math.Seq.{drop-append_seam, take-append_seam}
-use Rattle.dia_defs.specs.declared.kind.Kind.TheVariants.{Text}
-use Rattle.dia_defs.specs.Rows.{Row, IsRow, text, longest_text, bytes_of_u32}
-use Rattle.dia_defs.specs.Pieces.{line_row}
+use Rattle.row_defs.specs.declared.kind.Kind.TheVariants.{Text}
+use Rattle.row_defs.specs.Rows.{Row, IsRow, text, bytes_of_u32}
+use Rattle.row_defs.specs.Limits.{longest_text}
+use Rattle.row_defs.specs.Pieces.{line_row}
 use Rattle.dia_item.specs.Reading.{row_of, cell_len}
 use Rattle.dia_item.proofs.Fields.{field_reads}
 use Rattle.dia_item.proofs.RowLemmas.{row_reads}
 use Rattle.dia_lines.specs.Texts.{one_text, rows_from, HoldsRows}
 
--- a row at the front of bytes
-pub record Front (first rest : List ℕ) (row : Row) : Type 0 where
+-- a row at the beginning of bytes
+pub record Prefix (first rest : List ℕ) (row : Row) : Type 0 where
   pub value : row_of one_text (first ++ rest) ≡ row
   pub len : cell_len Text (first ++ rest) ≡ length first
 
-front : (first rest : List ℕ) (row : Row) → IsRow one_text first row → Front first rest row
-front first rest row h =
+prefix : (first rest : List ℕ) (row : Row) → IsRow one_text first row → Prefix first rest row
+prefix first rest row h =
     let whole : first ≡ h.2 = h.7 ∙ ap (λ (xs : List ℕ). h.2 ++ xs) h.5.0 ∙ append-nil h.2 in
     let reads = field_reads Text h.2 rest h.0 h.4 in
     record {
@@ -23,11 +24,11 @@ front first rest row h =
       len = ap (λ (xs : List ℕ). cell_len Text (xs ++ rest)) whole ∙ reads.len ∙ ap length (sym whole);
     }
 
-pub rows_from-front : (n : ℕ) (first rest : List ℕ) (row : Row) → IsRow one_text first row
+pub rows_from-prefix : (n : ℕ) (first rest : List ℕ) (row : Row) → IsRow one_text first row
     → rows_from (suc n) (first ++ rest) ≡ row ∷ rows_from n rest
 unfolding rows_from
-rows_from-front n first rest row h =
-    let f = front first rest row h in
+rows_from-prefix n first rest row h =
+    let f = prefix first rest row h in
     rw (f.value, f.len, drop-append_seam first rest) refl
 
 rows_from-zero : (bytes : List ℕ) → rows_from 0 bytes ≡ []
@@ -43,7 +44,7 @@ pub rows_from-push : (n : ℕ) (bytes more : List ℕ) (row : Row) → HoldsRows
 rows_from-push zero bytes more row h is =
     let same : bytes ++ more ≡ more ++ [] = ap (λ (xs : List ℕ). xs ++ more) h ∙ sym (append-nil more) in
     record {
-      rows = ap (rows_from 1) same ∙ rows_from-front 0 more [] row is ∙ ap (λ (rows : List Row). row ∷ rows) (rows_from-zero [])
+      rows = ap (rows_from 1) same ∙ rows_from-prefix 0 more [] row is ∙ ap (λ (rows : List Row). row ∷ rows) (rows_from-zero [])
           ∙ sym (ap (λ (rows : List Row). rows ++ row ∷ []) (rows_from-zero bytes));
       holds = (more, [], row, is, refl, same);
     }
@@ -51,8 +52,8 @@ rows_from-push (suc n) bytes more row h is =
     let same : bytes ++ more ≡ h.0 ++ (h.1 ++ more) = ap (λ (xs : List ℕ). xs ++ more) h.5 ∙ append_assoc h.0 h.1 more in
     let later = rows_from-push n h.1 more row h.4 is in
     record {
-      rows = ap (rows_from (suc (suc n))) same ∙ rows_from-front (suc n) h.0 (h.1 ++ more) h.2 h.3 ∙ ap (λ (rows : List Row). h.2 ∷ rows) later.rows
-          ∙ ap (λ (rows : List Row). rows ++ row ∷ []) (sym (rows_from-front n h.0 h.1 h.2 h.3) ∙ ap (rows_from (suc n)) (sym h.5));
+      rows = ap (rows_from (suc (suc n))) same ∙ rows_from-prefix (suc n) h.0 (h.1 ++ more) h.2 h.3 ∙ ap (λ (rows : List Row). h.2 ∷ rows) later.rows
+          ∙ ap (λ (rows : List Row). rows ++ row ∷ []) (sym (rows_from-prefix n h.0 h.1 h.2 h.3) ∙ ap (rows_from (suc n)) (sym h.5));
       holds = (h.0, h.1 ++ more, h.2, h.3, later.holds, same);
     }
 
@@ -60,15 +61,15 @@ pub text_row : (t : List ℕ) → length t ≤ longest_text → IsRow one_text (
 text_row t short = (text t, [], bytes_of_u32 (length t) ++ t, [], (short, refl), (refl, refl), refl, sym (append-nil (bytes_of_u32 (length t) ++ t)))
 
 -- one more text, in two parts, at the end
-pub record Appended (n : ℕ) (bytes front back new : List ℕ) : Type 0 where
-  pub rows : rows_from (n + 1) new ≡ rows_from n bytes ++ line_row (front ++ back) ∷ []
+pub record Appended (n : ℕ) (bytes prefix suffix new : List ℕ) : Type 0 where
+  pub rows : rows_from (n + 1) new ≡ rows_from n bytes ++ line_row (prefix ++ suffix) ∷ []
   pub holds : HoldsRows (n + 1) new
 
-pub append_text : (n : ℕ) (bytes front back new : List ℕ) → HoldsRows n bytes → length front + length back ≤ longest_text
-    → new ≡ bytes ++ (bytes_of_u32 (length front + length back) ++ (front ++ back)) → Appended n bytes front back new
-append_text n bytes front back new h short e =
-    let t = front ++ back in
-    let len : length t ≡ length front + length back = length-append front back in
+pub append_text : (n : ℕ) (bytes prefix suffix new : List ℕ) → HoldsRows n bytes → length prefix + length suffix ≤ longest_text
+    → new ≡ bytes ++ (bytes_of_u32 (length prefix + length suffix) ++ (prefix ++ suffix)) → Appended n bytes prefix suffix new
+append_text n bytes prefix suffix new h short e =
+    let t = prefix ++ suffix in
+    let len : length t ≡ length prefix + length suffix = length-append prefix suffix in
     let same : new ≡ bytes ++ (bytes_of_u32 (length t) ++ t) = e ∙ ap (λ (k : ℕ). bytes ++ (bytes_of_u32 k ++ t)) (sym len) in
     let p = rows_from-push n bytes (bytes_of_u32 (length t) ++ t) (line_row t) h (text_row t (omega arith)) in
     let Holds : List ℕ → Type 0 = λ xs. HoldsRows (suc n) xs in
@@ -80,7 +81,7 @@ append_text n bytes front back new h short e =
 -- a row has bytes
 some_bytes : (first : List ℕ) (row : Row) → IsRow one_text first row → 0 < length first
 some_bytes first row h =
-    let f = front first [] row h in
+    let f = prefix first [] row h in
     let same = ap length (append-nil first) in
     omega (arith, f.len, ap (cell_len Text) (append-nil first))
 
@@ -93,12 +94,12 @@ rows_few (suc n) bytes h =
     let parts = ap length h.5 ∙ length-append h.0 h.1 in
     omega arith
 
--- what a reader of rows finds at the front
+-- what a reader of rows finds at the beginning
 pub record Found (n : ℕ) (bytes : List ℕ) (row : Row) (k : ℕ) : Type 0 where
   pub rows : rows_from n bytes ≡ row ∷ rows_from (n - 1) (drop k bytes)
   pub holds : HoldsRows (n - 1) (drop k bytes)
 
--- a row that is the only one at the front is the first of the rows
+-- a row that is the only one at the beginning is the first of the rows
 pub only_found : (n : ℕ) (bytes : List ℕ) (found : Row) (k : ℕ) → 0 < n → HoldsRows n bytes
     → ((row : Row) (m : ℕ) → m ≤ length bytes → IsRow one_text (take m bytes) row → (row ≡ found) × (m ≡ k))
     → Found n bytes found k
@@ -112,11 +113,11 @@ only_found (suc n) bytes found k some h only =
     let less : suc n - 1 ≡ n = omega arith in
     let rest : drop k bytes ≡ h.1 = ap (λ (m : ℕ). drop m bytes) (sym same.1) ∙ ap (λ (xs : List ℕ). drop (length first) xs) h.5 ∙ drop-append_seam first h.1 in
     record {
-      rows = ap (rows_from (suc n)) h.5 ∙ rows_from-front n first h.1 h.2 h.3 ∙ rw (same.0, less, rest) refl;
+      rows = ap (rows_from (suc n)) h.5 ∙ rows_from-prefix n first h.1 h.2 h.3 ∙ rw (same.0, less, rest) refl;
       holds = rw (less, rest) h.4;
     }
 
--- there is a row at the front
+-- there is a row at the beginning
 pub row_stands : (n : ℕ) (bytes : List ℕ) → 0 < n → HoldsRows n bytes
     → ((row : Row) (m : ℕ) → IsRow one_text (take m bytes) row → ⊥) → ⊥
 row_stands zero bytes some h none = absurd (omega arith)

@@ -1,7 +1,7 @@
 -- The rows of blocks, one block after the other.
 use Rattle.std.specs.Prelude.{List, [], ◌∷◌, ◌++◌, Option, None, Some}
 use Rattle.std.specs.Borrow.{Bor}
-use Rattle.dia_defs.specs.Rows.{Row}
+use Rattle.row_defs.specs.Rows.{Row}
 
 abbrev pub rows_of_blocks : List (List Row) → List Row
 rows_of_blocks [] = []

@@ -1,22 +1,22 @@
 -- What reading an input answers, beside what the input holds.
 use Rattle.std.specs.Prelude.{◌≡◌, ℕ, List, Option, None, Some, length}
-use Rattle.dia_defs.specs.Lists.{missing, line_too_long, input_too_long, block_of_input}
+use Rattle.row_defs.specs.Inputs.{missing, line_too_long, input_too_long, failure_of_input}
 use Rattle.dia_edge.specs.Counts.{HasRisen}
-use Rattle.dia_edge.specs.Shelves.{GivesFront}
+use Rattle.dia_edge.specs.Shelves.{GivesPrefix}
 use Rattle.dia_lines.specs.declared.taker.TakeErr as take_errors
 use Rattle.dia_lines.specs.declared.taker.TakeErr.TheVariants as takes
 use Rattle.dia_lines.specs.declared.input.InputErr as errors
 use Rattle.dia_lines.specs.declared.input.InputErr.TheVariants.{Missing, LineTooLong, InputTooLong, Read, NoMemory}
 use Rattle.dia_lines.specs.declared.taker.Taker.{Taker}
 use Rattle.dia_lines.specs.Taking.{HasTaken}
-use Rattle.dia_defs.specs.Rows.{Row}
-use Rattle.dia_defs.specs.Pieces.{line_rows}
+use Rattle.row_defs.specs.Rows.{Row}
+use Rattle.row_defs.specs.Pieces.{line_rows}
 
 -- the refusal is just the one that the definitions give for what the name holds
 abbrev pub IsInputReason : errors.InputErr → Option (List ℕ) → Type 0
-IsInputReason Missing held = block_of_input held ≡ Some missing
-IsInputReason (LineTooLong line) held = block_of_input held ≡ Some (line_too_long line)
-IsInputReason InputTooLong held = block_of_input held ≡ Some input_too_long
+IsInputReason Missing held = failure_of_input held ≡ Some missing
+IsInputReason (LineTooLong line) held = failure_of_input held ≡ Some (line_too_long line)
+IsInputReason InputTooLong held = failure_of_input held ≡ Some input_too_long
 IsInputReason (Read count) held = Unit {0}
 IsInputReason NoMemory held = Unit {0}
 
@@ -25,14 +25,14 @@ pub record IsReading (all : Option (List ℕ)) (t : Taker) (total : ℕ) (left :
   pub seen : List ℕ
   pub taken : HasTaken t seen
   pub count : length seen ≡ total
-  pub front : GivesFront all seen left
+  pub prefix : GivesPrefix all seen left
 
 -- the rows are those of the input's lines, and nothing keeps them from being read
 pub record IsInput (rows : List Row) (held : Option (List ℕ)) : Type 0 where
   pub bytes : List ℕ
   pub there : held ≡ Some bytes
   pub lines : rows ≡ line_rows bytes
-  pub free : block_of_input held ≡ None
+  pub free : failure_of_input held ≡ None
 
 -- a fault of the shelf comes only where its count rose, and tells the count
 abbrev pub IsReadFault : errors.InputErr → ℕ → ℕ → Type 0

@@ -1,6 +1,6 @@
 -- What is left at a place among the rows.
 use Rattle.std.specs.Prelude.{List, ◌++◌}
-use Rattle.dia_defs.specs.Rows.{Row}
+use Rattle.row_defs.specs.Rows.{Row}
 use Rattle.dia_lines.specs.declared.place.Place.{Place}
 use Rattle.dia_lines.specs.Texts.{rows_from, HoldsRows}
 use Rattle.dia_lines.specs.Blocks.{rows_of_blocks, rows_of_last}

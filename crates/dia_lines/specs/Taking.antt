@@ -1,8 +1,9 @@
 -- Lines that are taken from an input, piece by piece.
 use Rattle.std.specs.Prelude.{◌≡◌, ℕ, ◌+◌, ◌<◌, Bool, true, List, ◌∷◌, ◌++◌, length, map, nat_le}
 use Rattle.std.specs.List.{list_all}
-use Rattle.dia_defs.specs.Rows.{Row, longest_text}
-use Rattle.dia_defs.specs.Pieces.{pieces_from, lines_of, line_row, line_rows, line_feed}
+use Rattle.row_defs.specs.Rows.{Row}
+use Rattle.row_defs.specs.Limits.{longest_text}
+use Rattle.row_defs.specs.Pieces.{pieces_from, lines_of, line_row, line_rows, line_feed}
 use Rattle.dia_lines.specs.declared.taker.Taker.{Taker}
 use Rattle.dia_lines.specs.declared.taker.TakeErr as errors
 use Rattle.dia_lines.specs.declared.taker.TakeErr.TheVariants.{LineTooLong, NoMemory}
@@ -33,18 +34,18 @@ abbrev pub IsTakeReason : errors.TakeErr → List ℕ → Type 0
 IsTakeReason (LineTooLong n) seen = IsLong n seen
 IsTakeReason NoMemory seen = Unit {0}
 
--- some front of the bytes was taken, and the rest is left
+-- some prefix of the bytes was taken, and the rest is left
 pub record Consumes (before after : Taker) (bytes rest : List ℕ) : Type 0 where
-  pub front : List ℕ
-  pub parts : bytes ≡ front ++ rest
-  pub taken : (seen : List ℕ) → HasTaken before seen → HasTaken after (seen ++ front)
+  pub prefix : List ℕ
+  pub parts : bytes ≡ prefix ++ rest
+  pub taken : (seen : List ℕ) → HasTaken before seen → HasTaken after (seen ++ prefix)
 
--- the refusal is that of some front of the bytes
+-- the refusal is that of some prefix of the bytes
 pub record IsCut (e : errors.TakeErr) (seen bytes : List ℕ) : Type 0 where
-  pub front : List ℕ
+  pub prefix : List ℕ
   pub rest : List ℕ
-  pub parts : bytes ≡ front ++ rest
-  pub reason : IsTakeReason e (seen ++ front)
+  pub parts : bytes ≡ prefix ++ rest
+  pub reason : IsTakeReason e (seen ++ prefix)
 
 -- the rows are those of all lines, each of which may be a text
 pub record AreRead (rows : List Row) (bytes : List ℕ) : Type 0 where

@@ -1,8 +1,8 @@
 -- Rows of one text, one after the other in bytes.
 use Rattle.std.specs.Prelude.{◌≡◌, ℕ, zero, suc, List, [], ◌∷◌, ◌++◌, drop}
-use Rattle.dia_defs.specs.declared.kind.Kind.{Kind}
-use Rattle.dia_defs.specs.declared.kind.Kind.TheVariants.{Text}
-use Rattle.dia_defs.specs.Rows.{Row, IsRow}
+use Rattle.row_defs.specs.declared.kind.Kind.{Kind}
+use Rattle.row_defs.specs.declared.kind.Kind.TheVariants.{Text}
+use Rattle.row_defs.specs.Rows.{Row, IsRow}
 use Rattle.dia_item.specs.Reading.{row_of, cell_len}
 
 -- the kinds of a row of one text

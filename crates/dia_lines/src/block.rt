@@ -1,7 +1,8 @@
 //! A block of encoded rows.
 ghost use Rattle.std.specs.Prelude.{◌≡◌, ◌+◌, ◌≤◌, ◌++◌, ◌∷◌, [], length, IfOk, OnOk, OnErr, vec_len, vec_capacity};
-ghost use Rattle.dia_defs.specs.Rows.{longest_text, bytes_of_u32};
-ghost use Rattle.dia_defs.specs.Pieces.{line_row};
+ghost use Rattle.row_defs.specs.Limits.{longest_text};
+ghost use Rattle.row_defs.specs.Rows.{bytes_of_u32};
+ghost use Rattle.row_defs.specs.Pieces.{line_row};
 ghost use Rattle.dia_lines.specs.Fitting.{AllFit};
 
 use dia_edge::NoMemory;
@@ -20,7 +21,7 @@ pub(crate) struct Block {
 
 impl Model for Block {
     ghost use Rattle.std.specs.Prelude.{List};
-    ghost use Rattle.dia_defs.specs.Rows.{Row};
+    ghost use Rattle.row_defs.specs.Rows.{Row};
     ghost use Rattle.dia_lines.specs.Texts.{rows_from, HoldsRows};
 
     ghost Value = { List Row };
@@ -44,22 +45,22 @@ fn append(bytes: &mut Vec<u8>, more: &[u8])
     }
 }
 
-// The row of the text that is `front` and then `back`, where there is memory for it.
+// The row of the text that is `prefix` and then `suffix`, where there is memory for it.
 #[inline(always)]
-#[tactic(auto, unfolding(dia_defs::specs::Rows::bytes_of_u32))]
-fn append_row(bytes: &mut Vec<u8>, front: &[u8], back: &[u8]) -> Result<(), NoMemory>
-    requires { length front.now + length back.now ≤ longest_text }
-    ensures ok { OnOk result (bytes.new.items ≡ bytes.old.items ++ (bytes_of_u32 (length front.now + length back.now) ++ (front.now ++ back.now))) }
+#[tactic(auto, unfolding(row_defs::specs::Rows::bytes_of_u32))]
+fn append_row(bytes: &mut Vec<u8>, prefix: &[u8], suffix: &[u8]) -> Result<(), NoMemory>
+    requires { length prefix.now + length suffix.now ≤ longest_text }
+    ensures ok { OnOk result (bytes.new.items ≡ bytes.old.items ++ (bytes_of_u32 (length prefix.now + length suffix.now) ++ (prefix.now ++ suffix.now))) }
     ensures err { OnErr result (bytes.new.items ≡ bytes.old.items) }
 {
-    let len = front.len() + back.len();
+    let len = prefix.len() + suffix.len();
     bytes.reserve(4 + len)?;
     append(bytes, &(len as u32).to_le_bytes());
     // Nearly every line stands in one piece, and a copy of no bytes is a call too.
-    if !front.is_empty() {
-        append(bytes, front);
+    if !prefix.is_empty() {
+        append(bytes, prefix);
     }
-    append(bytes, back);
+    append(bytes, suffix);
     Ok(())
 }
 
@@ -90,14 +91,14 @@ impl Block {
         self.bytes.capacity() - self.bytes.len() >= 4 + len
     }
 
-    /// One more row, of the text that is `front` and then `back`.
+    /// One more row, of the text that is `prefix` and then `suffix`.
     #[inline(always)]
-    pub(crate) fn push(&mut self, front: &[u8], back: &[u8]) -> Result<(), NoMemory>
-        requires { length front.now + length back.now ≤ longest_text }
-        ensures ok { OnOk result (self.new ≡ self.old ++ line_row (front.now ++ back.now) ∷ []) }
+    pub(crate) fn push(&mut self, prefix: &[u8], suffix: &[u8]) -> Result<(), NoMemory>
+        requires { length prefix.now + length suffix.now ≤ longest_text }
+        ensures ok { OnOk result (self.new ≡ self.old ++ line_row (prefix.now ++ suffix.now) ∷ []) }
         ensures err { OnErr result (self.new ≡ self.old) }
     {
-        append_row(&mut self.bytes, front, back)?;
+        append_row(&mut self.bytes, prefix, suffix)?;
         self.rows += 1;
         Ok(())
     }

@@ -1,14 +1,15 @@
 //! Reads an input.
 ghost use Rattle.std.specs.Prelude.{◌≡◌, ◌+◌, ◌≤◌, ◌<◌, ◌^◌, ◌++◌, [], true, ℕ, List, Option, Some, length, IfOk, IfErr, IfSome, is_some, min};
-ghost use Rattle.dia_defs.specs.Lists.{longest_input};
+ghost use Rattle.row_defs.specs.Limits.{longest_input};
 ghost use Rattle.dia_edge.specs.Counts.{HasRisen};
-ghost use Rattle.dia_edge.specs.Shelves.{GivesFront, IsAtEnd};
+ghost use Rattle.dia_edge.specs.Shelves.{GivesPrefix, IsAtEnd};
 ghost use Rattle.dia_lines.specs.Taking.{HasTaken, AreRead};
 ghost use Rattle.dia_lines.specs.Inputs.{IsInputReason, IsReading, IsInput, IsReadFault, IsReasonOf};
 
 use crate::line_rows::LineRows;
 use crate::taker::{TakeErr, Taker};
 use dia_edge::{Failed, Name, NoMemory, Shelf};
+use row_defs::limits::LONGEST_INPUT;
 use std::alloc::{AllocError, Global};
 
 /// Why an input wasn't read.
@@ -54,23 +55,20 @@ impl From<AllocError> for InputErr {
     }
 }
 
-// the most bytes of an input
-const LIMIT: u64 = 4_294_967_296;
-
 // how many bytes are asked for at once
 const PIECE: usize = 65_536;
 
 /// How many bytes are asked for after so many: up to the limit, and then the one that shows that there are more.
 fn room_after(total: u64) -> usize
-    requires { total ≤ LIMIT }
+    requires { total ≤ LONGEST_INPUT }
     ensures some { 0 < result }
     ensures most { result ≤ PIECE }
-    ensures within { total < LIMIT → total + result ≤ LIMIT }
+    ensures within { total < LONGEST_INPUT → total + result ≤ LONGEST_INPUT }
 {
-    if total == LIMIT {
+    if total == LONGEST_INPUT {
         return 1;
     }
-    (LIMIT - total).min(65_536) as usize
+    (LONGEST_INPUT - total).min(PIECE as u64) as usize
 }
 
 fn reason_of(e: TakeErr) -> InputErr
@@ -90,12 +88,12 @@ fn take_piece<N: Shelf>(
     buffer: &mut [u8],
     total: u64,
 ) -> Result<u64, InputErr>
-    requires total { total ≤ LIMIT }
+    requires total { total ≤ LONGEST_INPUT }
     requires lines { taker.old.lines ≤ total }
     requires buffer { length buffer.old ≡ PIECE }
     ensures ok { IfOk result (λ n. (all : Option (List ℕ)) → IsReading all taker.old total (N.left shelf.old)
         → IsReading all taker.new (total + n) (N.left shelf.new)) }
-    ensures within { IfOk result (λ n. total + n ≤ LIMIT) }
+    ensures within { IfOk result (λ n. total + n ≤ LONGEST_INPUT) }
     ensures end { IfOk result (λ n. n ≡ 0 → IsAtEnd (N.left shelf.new)) }
     ensures lines { IfOk result (λ n. taker.new.lines ≤ total + n) }
     ensures refused { IfErr result (λ e. (all : Option (List ℕ)) → IsReading all taker.old total (N.left shelf.old)
@@ -113,7 +111,7 @@ fn take_piece<N: Shelf>(
         }),
         Ok(0) => Ok(0),
         Ok(n) => {
-            if total == LIMIT {
+            if total == LONGEST_INPUT {
                 return Err(InputErr::InputTooLong);
             }
             let (piece, _) = place.split_at(n);
@@ -143,14 +141,14 @@ fn take_all<N: Shelf>(
     requires lines { taker.old.lines ≡ 0 }
     requires buffer { length buffer.old ≡ PIECE }
     ensures ok { IfOk result (λ total. IsReading (N.left shelf.old) taker.new total (N.left shelf.new) × IsAtEnd (N.left shelf.new)) }
-    ensures within { IfOk result (λ total. total ≤ LIMIT) }
+    ensures within { IfOk result (λ total. total ≤ LONGEST_INPUT) }
     ensures refused { IfErr result (λ e. IfSome (N.left shelf.old) (λ bytes. IsInputReason e (Some bytes))) }
     ensures fault { IfErr result (λ e. IsReadFault e (N.faults shelf.old) (N.faults shelf.new)) }
     ensures counts { N.faults shelf.old ≤ N.faults shelf.new }
     ensures fixed { N.is_fixed shelf.old ≡ true → (N.is_fixed shelf.new ≡ true) × (N.holds shelf.new ≡ N.holds shelf.old) }
 {
     let mut total = 0u64;
-    while total <= LIMIT {
+    while total <= LONGEST_INPUT {
         match take_piece(alloc, shelf, taker, buffer, total) {
             Ok(0) => return Ok(total),
             Ok(n) => total += n,

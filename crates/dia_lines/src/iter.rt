@@ -16,7 +16,7 @@ pub struct Iter<'r> {
 
 impl<'r> Model for Iter<'r> {
     ghost use Rattle.std.specs.Prelude.{List, ◌≡◌};
-    ghost use Rattle.dia_defs.specs.Rows.{Row};
+    ghost use Rattle.row_defs.specs.Rows.{Row};
     ghost use Rattle.dia_item.specs.KindList.{kind_list};
     ghost use Rattle.dia_lines.specs.Texts.{one_text};
     ghost use Rattle.dia_lines.specs.Places.{rows_at, HoldsAt};

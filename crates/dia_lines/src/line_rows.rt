@@ -1,7 +1,7 @@
 //! The rows of an input's lines.
 ghost use Rattle.std.specs.Prelude.{◌≡◌, ◌+◌, ◌-◌, ◌^◌, ◌≤◌, ◌++◌, ◌∷◌, [], length, min, IfOk, OnOk, OnErr};
-ghost use Rattle.dia_defs.specs.Rows.{longest_text};
-ghost use Rattle.dia_defs.specs.Pieces.{line_row};
+ghost use Rattle.row_defs.specs.Limits.{longest_text};
+ghost use Rattle.row_defs.specs.Pieces.{line_row};
 ghost use Rattle.dia_lines.specs.Fitting.{AllFit};
 ghost use Rattle.dia_lines.specs.Blocks.{rows_of_blocks};
 
@@ -23,7 +23,7 @@ pub struct LineRows {
 
 impl Model for LineRows {
     ghost use Rattle.std.specs.Prelude.{List, ◌++◌};
-    ghost use Rattle.dia_defs.specs.Rows.{Row};
+    ghost use Rattle.row_defs.specs.Rows.{Row};
 
     ghost Value = { List Row };
 
@@ -70,17 +70,17 @@ impl LineRows {
         }
     }
 
-    /// One more row, of the text that is `front` and then `back`.
+    /// One more row, of the text that is `prefix` and then `suffix`.
     #[inline(always)]
-    pub fn push(&mut self, alloc: Global, front: &[u8], back: &[u8]) -> Result<(), NoMemory>
-        requires { length front.now + length back.now ≤ longest_text }
-        ensures ok { OnOk result (self.new ≡ self.old ++ line_row (front.now ++ back.now) ∷ []) }
+    pub fn push(&mut self, alloc: Global, prefix: &[u8], suffix: &[u8]) -> Result<(), NoMemory>
+        requires { length prefix.now + length suffix.now ≤ longest_text }
+        ensures ok { OnOk result (self.new ≡ self.old ++ line_row (prefix.now ++ suffix.now) ∷ []) }
         ensures err { OnErr result (self.new ≡ self.old) }
     {
-        if !self.last.has_room(front.len() + back.len()) {
+        if !self.last.has_room(prefix.len() + suffix.len()) {
             self.turn(alloc)?;
         }
-        self.last.push(front, back)
+        self.last.push(prefix, suffix)
     }
 
     /// How many rows there are, or `u64::MAX` where there are more. Each of them fits.

@@ -89,7 +89,7 @@ fn turn_over(place: &mut Place<'_>) -> bool
 
 /// Takes the next row.
 #[inline(always)]
-fn take_front<'r>(kinds: &Kinds, place: &mut Place<'r>) -> RowRef<'r>
+fn take_prefix<'r>(kinds: &Kinds, place: &mut Place<'r>) -> RowRef<'r>
     requires kinds { kind_list kinds.now ≡ one_text }
     requires some { 0 < place.old.left }
     requires holds { HoldsAt place.old }
@@ -119,5 +119,5 @@ pub(crate) fn advance<'r>(kinds: &Kinds, place: &mut Place<'r>) -> Option<RowRef
     if place.left == 0 && !turn_over(place) {
         return None;
     }
-    Some(take_front(kinds, place))
+    Some(take_prefix(kinds, place))
 }

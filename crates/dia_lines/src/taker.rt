@@ -1,9 +1,11 @@
 //! Takes the lines of an input that comes in pieces.
 ghost use Rattle.std.specs.Prelude.{◌≡◌, ◌≤◌, vec_len};
+ghost use Rattle.row_defs.specs.Limits.{longest_text};
 
 use crate::line_rows::LineRows;
 use dia_edge::NoMemory;
 use dia_text::find_separator;
+use row_defs::limits::LONGEST_TEXT;
 use std::alloc::Global;
 
 /// Why a piece wasn't taken.
@@ -30,15 +32,12 @@ pub(crate) struct Taker {
     pub rows: LineRows,
     pub lines: u64,
     pub run: Vec<u8>,
-    ghost short: { vec_len run ≤ 65536 },
+    ghost short: { vec_len run ≤ longest_text },
 }
-
-// the most bytes of a line
-const LONGEST: usize = 65_536;
 
 impl Taker {
     ghost use Rattle.std.specs.Prelude.{◌≡◌, ◌+◌, ◌≤◌, ◌<◌, ◌++◌, ◌∷◌, ◌^◌, ◌-◌, [], ℕ, List, length, take, drop, IfOk, IfErr, OnOk};
-    ghost use Rattle.dia_defs.specs.Pieces.{line_feed};
+    ghost use Rattle.row_defs.specs.Pieces.{line_feed};
     ghost use Rattle.dia_lines.specs.Taking.{HasTaken, IsTakeReason, Consumes, IsCut, AreRead};
     ghost use Rattle.dia_text.specs.Unbroken.{IsUnbroken};
 
@@ -49,7 +48,7 @@ impl Taker {
         Ok(Taker {
             rows: LineRows::new(alloc)?,
             lines: 0,
-            run: Vec::with_capacity(alloc, LONGEST)?,
+            run: Vec::with_capacity(alloc, LONGEST_TEXT)?,
         })
     }
 
@@ -61,7 +60,7 @@ impl Taker {
         ensures refused { IfErr result (λ e. (seen : List ℕ) → HasTaken self.old seen → IsTakeReason e (seen ++ bytes.now)) }
         ensures lines { OnOk result (self.new.lines ≡ self.old.lines + 1) }
     {
-        if bytes.len() > LONGEST - self.run.len() {
+        if bytes.len() > LONGEST_TEXT - self.run.len() {
             return Err(TakeErr::LineTooLong(self.lines + 1));
         }
         self.rows.push(alloc, self.run.as_slice(), bytes)?;
@@ -78,7 +77,7 @@ impl Taker {
         ensures refused { IfErr result (λ e. (seen : List ℕ) → HasTaken self.old seen → IsTakeReason e (seen ++ bytes.now)) }
         ensures lines { OnOk result (self.new.lines ≡ self.old.lines) }
     {
-        if bytes.len() > LONGEST - self.run.len() {
+        if bytes.len() > LONGEST_TEXT - self.run.len() {
             return Err(TakeErr::LineTooLong(self.lines + 1));
         }
         match self.run.extend_from_slice(bytes) {

@@ -4,17 +4,17 @@ use Rattle.std.proofs.lemmas.List.{get_or-take, take_more, length-take-le, take-
 use Rattle.std.proofs.lemmas.Bool.{ne_eqb, eqb-true}
 use Rattle.memchr.specs.Find.{IsFirstByte, is_byte}
 use Rattle.dia_text.specs.Unbroken.{IsUnbroken}
-use Rattle.dia_defs.specs.Pieces.{pieces_from, last_piece, is_some_bytes, space}
+use Rattle.row_defs.specs.Pieces.{pieces_from, last_piece, is_some_bytes, space}
 
 -- bytes without a separator go on with the piece
-pub pieces-through : (a : ℕ) (run front rest : List ℕ) → ((k : ℕ) → k < length front → get_or front k 0 ≢ a)
-    → pieces_from a run (front ++ rest) ≡ pieces_from a (run ++ front) rest
+pub pieces-through : (a : ℕ) (run prefix rest : List ℕ) → ((k : ℕ) → k < length prefix → get_or prefix k 0 ≢ a)
+    → pieces_from a run (prefix ++ rest) ≡ pieces_from a (run ++ prefix) rest
 unfolding pieces_from
 pieces-through a run [] rest none = rw append-nil refl
-pieces-through a run (b ∷ front) rest none =
+pieces-through a run (b ∷ prefix) rest none =
     rw (ne_eqb b a (none 0 (omega arith)))
-    (pieces-through a (run ++ b ∷ []) front rest (λ k h. none (suc k) (omega arith))
-    ∙ ap (λ (more : List ℕ). pieces_from a more rest) (append_assoc run (b ∷ []) front))
+    (pieces-through a (run ++ b ∷ []) prefix rest (λ k h. none (suc k) (omega arith))
+    ∙ ap (λ (more : List ℕ). pieces_from a more rest) (append_assoc run (b ∷ []) prefix))
 
 -- a separator ends the piece
 pub pieces-at : (a : ℕ) (run rest : List ℕ) → pieces_from a run (a ∷ rest) ≡ run ∷ pieces_from a [] rest

@@ -1,6 +1,6 @@
 -- Bytes without a separator.
 use Rattle.std.specs.Prelude.{◌≡◌, ℕ, List, ◌++◌}
-use Rattle.dia_defs.specs.Pieces.{pieces_from}
+use Rattle.row_defs.specs.Pieces.{pieces_from}
 
 -- the bytes go on with the piece that they come to
 abbrev pub IsUnbroken : ℕ → List ℕ → Type 0

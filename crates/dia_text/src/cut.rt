@@ -1,6 +1,6 @@
 //! The first piece of bytes.
 ghost use Rattle.std.specs.Prelude.{◌≡◌, ℕ, ◌+◌, ◌<◌, ◌≤◌, List, [], ◌∷◌, ◌++◌, length, take, drop, IfSome, MatchOption};
-ghost use Rattle.dia_defs.specs.Pieces.{pieces_from};
+ghost use Rattle.row_defs.specs.Pieces.{pieces_from};
 ghost use Rattle.dia_text.specs.Unbroken.{IsUnbroken};
 
 use memchr::memchr;

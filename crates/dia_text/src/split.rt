@@ -1,6 +1,6 @@
 //! The words of a line.
 ghost use Rattle.std.specs.Prelude.{◌≡◌, List, ℕ, map, IfOk};
-ghost use Rattle.dia_defs.specs.Pieces.{words_of};
+ghost use Rattle.row_defs.specs.Pieces.{words_of};
 
 use crate::cut::cut_off;
 use dia_edge::NoMemory;

@@ -1,11 +1,10 @@
 -- The rows that come of the first row of some, and of the others.
 use Rattle.std.proofs.Common.{◌≡◌, ℕ, suc, ◌+◌, ◌-◌, ◌%◌, ◌^◌, ◌<◌, List, [], ◌∷◌, ◌++◌, length, map, slice_set, refl, ap, arith}
 use Rattle.std.specs.List.{range_with_len}
-use Rattle.dia_defs.specs.Rows.{int, Row}
-use Rattle.dia_defs.specs.Texts.{words_in_text}
-use Rattle.dia_defs.specs.Values.{column, value_of, number_in}
-use Rattle.dia_defs.specs.Scripts.{LocalOp}
-use Rattle.dia_defs.specs.Lists.{with_word, raised, rows_through}
+use Rattle.row_defs.specs.Rows.{int, Row}
+use Rattle.row_defs.specs.Texts.{words_in_text}
+use Rattle.row_defs.specs.Values.{column, value_of, number_in}
+use Rattle.row_defs.specs.LocalOps.{LocalOp, with_word, raised, rows_through}
 use Rattle.lop_chain.specs.declared.script_op.ScriptOp.{ScriptOp}
 use Rattle.lop_chain.specs.Ops.{ops_in, rows_from}
 

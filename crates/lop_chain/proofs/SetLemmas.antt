@@ -2,8 +2,8 @@
 use Rattle.std.proofs.Common.{◌≡◌, ◌≢◌, ℕ, zero, suc, ◌+◌, ◌<◌, [], ◌∷◌, ◌++◌, length, take, slice_get, slice_set, Some, refl, ap, subst, ◌∙◌, add-one, arith}
 use Rattle.std.proofs.lemmas.List.{length-map}
 use Rattle.std.proofs.lemmas.Option.{slice_get_within}
-use Rattle.dia_defs.specs.declared.kind.Kind.{Kind}
-use Rattle.dia_defs.specs.Rows.{Cell, Row, kind_of, kinds_of}
+use Rattle.row_defs.specs.declared.kind.Kind.{Kind}
+use Rattle.row_defs.specs.Rows.{Cell, Row, kind_of, kinds_of}
 
 take_next : (xs : Row) (i : ℕ) (x : Cell) → slice_get xs i ≡ Some x → take (suc i) xs ≡ take i xs ++ x ∷ []
 take_next [] i x e = absurd cc

@@ -1,7 +1,7 @@
 -- A sink behind two ops that refuses.
 use Rattle.std.proofs.Common.{◌≡◌, List, [], ◌∷◌, ◌++◌, refl, Result, Ok, Err, IfErr, OnOk, sym, ◌∙◌, subst, append_assoc}
 use Rattle.std.specs.List.{AllByRecursion}
-use Rattle.dia_defs.specs.Rows.{Row}
+use Rattle.row_defs.specs.Rows.{Row}
 use Rattle.lop_chain.specs.Rows.{Kinds, IsRowOf}
 use Rattle.lop_chain.specs.Made.{MadeOfEach, MadeOfEach-map, MadeOfEach-append}
 use Rattle.lop_chain.specs.Calls.{TookSomeMade, TookAllMade}
@@ -14,8 +14,8 @@ pub all-back : (P : Row → Type 0) (xs : List Row) (y : Row) (ys : List Row) �
 all-back P [] y ys h = h.1
 all-back P (x ∷ xs) y ys h = all-back P xs y ys h.1
 
-pub regroup : (out rows more front : List Row) (next : Row) (back : List Row) → rows ≡ front ++ next ∷ back → out ++ (rows ++ more) ≡ (out ++ front) ++ next ∷ (back ++ more)
-regroup out rows more front next back e = rw e (simp append_assoc)
+pub regroup : (out rows more prefix : List Row) (next : Row) (back : List Row) → rows ≡ prefix ++ next ∷ back → out ++ (rows ++ more) ≡ (out ++ prefix) ++ next ∷ (back ++ more)
+regroup out rows more prefix next back e = rw e (simp append_assoc)
 
 -- h is an op and a sink below it, as one sink
 pub record IsThrough {T O S D R : Type 0} (h : Ghosts T D R) (o : OpGhosts O) (g : Ghosts S D R) (op_of : T → O) (sink_of : T → S) : Type 0 where
@@ -55,11 +55,11 @@ module _ {T O S D R : Type 0} (h : Ghosts T D R) (o : OpGhosts O) (g : Ghosts S 
       → TookSomeMade g (MadeThen first (o.makes (op_of t)) row) (sink_of t) d e (sink_of u) b
   then_some more between first row t u d b e total sound w =
       let v = w.some in
-      let p = is.took t v.front v.at v.took in
+      let p = is.took t v.prefix v.at v.took in
       let q = is.refused v.at d v.next e u b v.refused in
       let by : o.makes (op_of t) v.next q.some.rows = p.same.made v.next q.some.rows q.some.made in
       let Q : List Row → Type 0 = λ rows. AllByRecursion (IsRowOf between) rows in
-      let back = each_total (o.makes (op_of t)) between v.back total (all-back _ v.front v.next v.back (subst Q v.parts (sound w.rows w.made))) in
+      let back = each_total (o.makes (op_of t)) between v.back total (all-back _ v.prefix v.next v.back (subst Q v.parts (sound w.rows w.made))) in
       let s = q.some.some in
       record {
         rows = p.out ++ (q.some.rows ++ back.0);
@@ -68,15 +68,15 @@ module _ {T O S D R : Type 0} (h : Ghosts T D R) (o : OpGhosts O) (g : Ghosts S 
           by_first = w.made;
           by_second =
               let M : List Row → Type 0 = λ rows. MadeOfEach (o.makes (op_of t)) rows (p.out ++ (q.some.rows ++ back.0)) in
-              subst M (sym v.parts) (MadeOfEach-append _ v.front (v.next ∷ v.back) p.out (q.some.rows ++ back.0) p.made (q.some.rows, back.0, by, back.1, refl));
+              subst M (sym v.parts) (MadeOfEach-append _ v.prefix (v.next ∷ v.back) p.out (q.some.rows ++ back.0) p.made (q.some.rows, back.0, by, back.1, refl));
         };
         some = record {
-          front = p.out ++ s.front;
+          prefix = p.out ++ s.prefix;
           next = s.next;
           back = s.back ++ back.0;
           at = s.at;
-          parts = regroup p.out q.some.rows back.0 s.front s.next s.back s.parts;
-          took = more (sink_of t) (sink_of v.at) s.at p.out s.front p.took s.took;
+          parts = regroup p.out q.some.rows back.0 s.prefix s.next s.back s.parts;
+          took = more (sink_of t) (sink_of v.at) s.at p.out s.prefix p.took s.took;
           refused = s.refused;
           shut = s.shut;
         };

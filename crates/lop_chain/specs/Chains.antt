@@ -1,6 +1,6 @@
 -- The local lines of a chain.
 use Rattle.std.specs.Prelude.{List}
-use Rattle.dia_defs.specs.Scripts.{LocalOp}
+use Rattle.row_defs.specs.LocalOps.{LocalOp}
 use Rattle.lop_chain.specs.Ops.{ops_in}
 use Rattle.lop_chain.specs.declared.chain.Chain.{Chain}
 

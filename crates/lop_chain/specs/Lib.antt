@@ -6,3 +6,4 @@ pub mod Then
 pub mod Ops
 pub mod OpLemmas
 pub mod Chains
+pub mod Operands

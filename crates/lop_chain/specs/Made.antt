@@ -1,7 +1,7 @@
 -- Lists of rows made from lists of rows.
 use Rattle.std.specs.Prelude.{◌≡◌, List, [], ◌∷◌, ◌++◌}
 use Rattle.std.proofs.Common.{subst, sym, ap, ◌∙◌, append_assoc}
-use Rattle.dia_defs.specs.Rows.{Row}
+use Rattle.row_defs.specs.Rows.{Row}
 use Rattle.lop_chain.specs.Rows.{Kinds}
 
 -- the second list is what is made of each row of the first, one after the other

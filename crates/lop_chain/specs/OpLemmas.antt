@@ -1,14 +1,12 @@
 -- The rows that local lines make have their kinds.
 use Rattle.std.proofs.Common.{◌≡◌, ℕ, zero, suc, ◌==◌, Bool, true, false, if◌then◌else◌, List, [], ◌∷◌, map, slice_get, slice_set, Option, Some, None, IsSome, refl, sym, ap, subst, ◌∙◌}
 use Rattle.std.specs.List.{flat_map, filter_map, cons_option, AllByRecursion, range_with_len}
-use Rattle.dia_defs.specs.declared.kind.Kind.{Kind}
-use Rattle.dia_defs.specs.declared.kind.Kind.TheVariants.{Int, Text}
-use Rattle.dia_defs.specs.Rows.{Cell, text, Row, kind_of, kinds_of}
-use Rattle.dia_defs.specs.Texts.{words_in_text}
-use Rattle.dia_defs.specs.Values.{Expr, column, expr_kind, value_of, number_in, bytes_in}
-use Rattle.dia_defs.specs.Scripts.{LocalOp, map_op, filter_op, words_op, spread_op}
-use Rattle.dia_defs.specs.Lists.{with_word, raised, rows_made, rows_through}
-use Rattle.dia_defs.specs.Sound.{HaveKinds, IsSoundOp, op_kinds, AreSoundOps}
+use Rattle.row_defs.specs.declared.kind.Kind.{Kind}
+use Rattle.row_defs.specs.declared.kind.Kind.TheVariants.{Int, Text}
+use Rattle.row_defs.specs.Rows.{Cell, text, Row, kind_of, kinds_of}
+use Rattle.row_defs.specs.Texts.{words_in_text}
+use Rattle.row_defs.specs.Values.{Expr, column, expr_kind, value_of, number_in, bytes_in}
+use Rattle.row_defs.specs.LocalOps.{LocalOp, map_op, filter_op, words_op, spread_op, with_word, raised, rows_made, rows_through, HaveKinds, IsSoundOp, op_kinds, AreSoundOps}
 use Rattle.dia_expr.proofs.ValueLemmas.{value_kind-from}
 use Rattle.lop_chain.specs.Rows.{Kinds, IsRowOf}
 use Rattle.lop_chain.specs.Then.{all-append}

@@ -1,10 +1,9 @@
 -- The local lines of the definitions that code stands for.
 use Rattle.std.specs.Prelude.{ℕ, Bool, true, false, List, map}
 use Rattle.std.specs.List.{flat_map, count_by}
-use Rattle.dia_defs.specs.Rows.{Row}
-use Rattle.dia_defs.specs.Values.{Expr, value_of}
-use Rattle.dia_defs.specs.Scripts.{LocalOp, map_op, filter_op, words_op, spread_op}
-use Rattle.dia_defs.specs.Lists.{rows_through}
+use Rattle.row_defs.specs.Rows.{Row}
+use Rattle.row_defs.specs.Values.{Expr, value_of}
+use Rattle.row_defs.specs.LocalOps.{LocalOp, map_op, filter_op, words_op, spread_op, rows_through}
 use Rattle.dia_expr.specs.Exprs.{expr_in}
 use Rattle.dia_expr.specs.declared.expr.Expr as exprs
 use Rattle.lop_chain.specs.declared.script_op.ScriptOp.{ScriptOp}

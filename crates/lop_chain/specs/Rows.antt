@@ -1,7 +1,7 @@
 -- Rows of kinds.
 use Rattle.std.specs.Prelude.{◌≡◌, List}
-use Rattle.dia_defs.specs.declared.kind.Kind.{Kind}
-use Rattle.dia_defs.specs.Rows.{Row, kinds_of}
+use Rattle.row_defs.specs.declared.kind.Kind.{Kind}
+use Rattle.row_defs.specs.Rows.{Row, kinds_of}
 
 abbrev pub Kinds : Type 0
 Kinds = List Kind

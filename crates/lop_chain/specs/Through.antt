@@ -1,6 +1,6 @@
 -- An op and the sink below it, seen as one sink.
 use Rattle.std.specs.Prelude.{List, [], ◌++◌, refl}
-use Rattle.dia_defs.specs.Rows.{Row}
+use Rattle.row_defs.specs.Rows.{Row}
 use Rattle.lop_chain.specs.Rows.{Kinds}
 use Rattle.lop_chain.specs.Made.{MadeOfEach, MakesAsBefore, MakesAsBefore-refl, MakesAsBefore-trans, MadeOfEach-map, MadeOfEach-append}
 use Rattle.lop_chain.specs.Calls.{TookSome, TookSomeMade}
@@ -52,7 +52,7 @@ pub TookSome-from :
     → ((s t : S) (a b c : D) (row : Row) (e : R) → g.follows a b → g.refused s b row e t c → g.refused s a row e t c)
     → (s t : S) (a b c : D) (rows : List Row) (e : R) → g.follows a b → TookSome g s b rows e t c → TookSome g s a rows e t c
 TookSome-from g from s t a b c rows e f p = record {
-  front = p.front;
+  prefix = p.prefix;
   next = p.next;
   back = p.back;
   at = p.at;

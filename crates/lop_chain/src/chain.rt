@@ -1,7 +1,6 @@
 //! Several local lines, one after the other.
 ghost use Rattle.std.specs.Prelude.{◌≡◌, ◌≤◌, IfOk, vec_len, refl};
-ghost use Rattle.dia_defs.specs.Lists.{rows_through};
-ghost use Rattle.dia_defs.specs.Sound.{AreSoundOps};
+ghost use Rattle.row_defs.specs.LocalOps.{rows_through, AreSoundOps};
 ghost use Rattle.lop_chain.specs.Ops.{ops_in, buffers_needed};
 ghost use Rattle.lop_chain.specs.OpLemmas.{made_sound};
 

@@ -11,6 +11,7 @@
 mod chain;
 mod local_op;
 mod make;
+mod operand;
 mod push;
 mod script_op;
 mod sink;
@@ -19,6 +20,7 @@ mod through;
 
 pub use chain::Chain;
 pub use local_op::LocalOp;
+pub use operand::{Operand, Root};
 pub use script_op::{ScriptOp, copy_exprs};
 pub use sink::RowSink;
 pub use then::Then;

@@ -1,7 +1,7 @@
 //! What makes rows of rows.
 ghost use Rattle.std.specs.Prelude.{◌≡◌, List, false, OnOk, IfErr};
 ghost use Rattle.std.specs.List.{AllByRecursion};
-ghost use Rattle.dia_defs.specs.Rows.{Row, kinds_of};
+ghost use Rattle.row_defs.specs.Rows.{Row, kinds_of};
 ghost use Rattle.dia_item.specs.Lent.{row_in_ref};
 ghost use Rattle.lop_chain.specs.Rows.{Kinds, IsRowOf};
 ghost use Rattle.lop_chain.specs.Made.{MakesAsBefore};

@@ -1,10 +1,10 @@
 //! Rows that are made of a row.
 ghost use Rattle.std.specs.Prelude.{◌≡◌, ◌≤◌, ◌<◌, ◌+◌, ◌++◌, ◌∷◌, [], length, slice_get, slice_set, Some};
-ghost use Rattle.dia_defs.specs.declared.kind.Kind.TheVariants.{Int, Text};
-ghost use Rattle.dia_defs.specs.Rows.{kinds_of, longest_text, Fits};
-ghost use Rattle.dia_defs.specs.Values.{column as column_of, value_of, number_in, bytes_in};
-ghost use Rattle.dia_defs.specs.Scripts.{map_op};
-ghost use Rattle.dia_defs.specs.Sound.{HaveKinds, IsSoundOp, op_kinds};
+ghost use Rattle.row_defs.specs.declared.kind.Kind.TheVariants.{Int, Text};
+ghost use Rattle.row_defs.specs.Rows.{kinds_of, Fits};
+ghost use Rattle.row_defs.specs.Limits.{longest_text};
+ghost use Rattle.row_defs.specs.Values.{column as column_of, value_of, number_in, bytes_in};
+ghost use Rattle.row_defs.specs.LocalOps.{map_op, HaveKinds, IsSoundOp, op_kinds};
 ghost use Rattle.dia_item.specs.Fields.{cell_of};
 ghost use Rattle.dia_item.specs.Lent.{row_in_ref};
 ghost use Rattle.lop_chain.specs.Ops.{exprs_in, values_of};

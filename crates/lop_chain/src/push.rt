@@ -1,13 +1,11 @@
 //! Pushes a row through local lines, down the list of them: each line pushes what it makes through the lines behind it.
 ghost use Rattle.std.specs.Prelude.{◌≡◌, ◌≤◌, ◌∷◌, false, length, slice_get, Some, OnOk, IfErr};
-ghost use Rattle.dia_defs.specs.declared.kind.Kind.TheVariants.{Int, Text};
-ghost use Rattle.dia_defs.specs.Rows.{kinds_of};
-ghost use Rattle.dia_defs.specs.Scripts.{words_op, spread_op};
-ghost use Rattle.dia_defs.specs.Lists.{rows_through};
-ghost use Rattle.dia_defs.specs.Sound.{AreSoundOps};
+ghost use Rattle.row_defs.specs.declared.kind.Kind.TheVariants.{Int, Text};
+ghost use Rattle.row_defs.specs.Rows.{kinds_of};
+ghost use Rattle.row_defs.specs.LocalOps.{words_op, spread_op, rows_through, AreSoundOps};
 ghost use Rattle.dia_item.specs.Lent.{row_in_ref};
 ghost use Rattle.lop_chain.specs.Rows.{Kinds};
-ghost use Rattle.lop_chain.specs.Calls.{TookAll, TookSome};
+ghost use Rattle.lop_chain.specs.Calls.{TookRows, TookSome};
 ghost use Rattle.lop_chain.specs.Ops.{op_in, ops_in, buffers_needed};
 
 use crate::make::{number_at, put_values, put_with, text_at};
@@ -33,7 +31,7 @@ pub(crate) fn push_through<R: Wait, S: RowSink>(
     requires serves { S.serves sink.old desk.old }
     requires is_open { S.is_shut sink.old ≡ false }
     ensures ok { OnOk result
-        (TookAll S.RowSink sink.old desk.old (rows_through (ops_in ops.now) (row_in_ref row.now)) sink.new desk.new) }
+        (TookRows S.RowSink sink.old desk.old (rows_through (ops_in ops.now) (row_in_ref row.now)) sink.new desk.new) }
     ensures err { IfErr result (λ e.
         TookSome S.RowSink sink.old desk.old (rows_through (ops_in ops.now) (row_in_ref row.now)) e sink.new desk.new) }
     ensures follows { S.follows desk.old desk.new }
@@ -62,7 +60,7 @@ fn push_op<R: Wait, S: RowSink>(
     requires serves { S.serves sink.old desk.old }
     requires is_open { S.is_shut sink.old ≡ false }
     ensures ok { OnOk result
-        (TookAll S.RowSink sink.old desk.old (rows_through (op_in op.now ∷ ops_in rest.now) (row_in_ref row.now)) sink.new desk.new) }
+        (TookRows S.RowSink sink.old desk.old (rows_through (op_in op.now ∷ ops_in rest.now) (row_in_ref row.now)) sink.new desk.new) }
     ensures err { IfErr result (λ e.
         TookSome S.RowSink sink.old desk.old (rows_through (op_in op.now ∷ ops_in rest.now) (row_in_ref row.now)) e sink.new desk.new) }
     ensures follows { S.follows desk.old desk.new }
@@ -108,7 +106,7 @@ fn push_words<R: Wait, S: RowSink>(
     requires fits { (to : Kinds) × AreSoundOps (kinds_of (row_in_ref row.now)) (ops_in ops.now) to × S.accepts sink.old to }
     requires serves { S.serves sink.old desk.old }
     requires is_open { S.is_shut sink.old ≡ false }
-    ensures ok { OnOk result (TookAll S.RowSink sink.old desk.old
+    ensures ok { OnOk result (TookRows S.RowSink sink.old desk.old
         (rows_through (words_op column ∷ ops_in ops.now) (row_in_ref row.now)) sink.new desk.new) }
     ensures err { IfErr result (λ e. TookSome S.RowSink sink.old desk.old
         (rows_through (words_op column ∷ ops_in ops.now) (row_in_ref row.now)) e sink.new desk.new) }
@@ -146,7 +144,7 @@ fn push_spread<R: Wait, S: RowSink>(
     requires fits { (to : Kinds) × AreSoundOps (kinds_of (row_in_ref row.now)) (ops_in ops.now) to × S.accepts sink.old to }
     requires serves { S.serves sink.old desk.old }
     requires is_open { S.is_shut sink.old ≡ false }
-    ensures ok { OnOk result (TookAll S.RowSink sink.old desk.old
+    ensures ok { OnOk result (TookRows S.RowSink sink.old desk.old
         (rows_through (spread_op column count ∷ ops_in ops.now) (row_in_ref row.now)) sink.new desk.new) }
     ensures err { IfErr result (λ e. TookSome S.RowSink sink.old desk.old
         (rows_through (spread_op column count ∷ ops_in ops.now) (row_in_ref row.now)) e sink.new desk.new) }

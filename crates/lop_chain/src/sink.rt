@@ -1,6 +1,6 @@
 //! What takes rows.
 ghost use Rattle.std.specs.Prelude.{◌≡◌, ◌++◌, ◌∷◌, [], ℕ, List, Bool, false, true, OnOk, OnErr, IfErr};
-ghost use Rattle.dia_defs.specs.Rows.{Row, kinds_of};
+ghost use Rattle.row_defs.specs.Rows.{Row, kinds_of};
 ghost use Rattle.dia_item.specs.Lent.{row_in_ref};
 ghost use Rattle.lop_chain.specs.Rows.{Kinds};
 

@@ -1,9 +1,9 @@
 //! Rows pushed through chains.
 ghost use Rattle.std.specs.Prelude.{◌≡◌, ◌∷◌, [], false, IfOk};
-ghost use Rattle.dia_defs.specs.declared.kind.Kind.TheVariants.{Int, Text};
-ghost use Rattle.dia_defs.specs.Rows.{kinds_of};
-ghost use Rattle.dia_defs.specs.Values.{column, number, math};
-ghost use Rattle.dia_defs.specs.Sound.{AreSoundOps};
+ghost use Rattle.row_defs.specs.declared.kind.Kind.TheVariants.{Int, Text};
+ghost use Rattle.row_defs.specs.Rows.{kinds_of};
+ghost use Rattle.row_defs.specs.Values.{column, number, math};
+ghost use Rattle.row_defs.specs.LocalOps.{AreSoundOps};
 ghost use Rattle.dia_expr.specs.Exprs.{expr_in, math_in};
 ghost use Rattle.dia_item.specs.Lent.{row_in_ref};
 ghost use Rattle.lop_chain.specs.Rows.{Kinds};

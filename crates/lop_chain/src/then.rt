@@ -1,6 +1,6 @@
 //! One op after the other.
 ghost use Rattle.std.specs.Prelude.{◌≡◌, List};
-ghost use Rattle.dia_defs.specs.Rows.{Row};
+ghost use Rattle.row_defs.specs.Rows.{Row};
 ghost use Rattle.lop_chain.specs.Rows.{Kinds, IsRowOf};
 ghost use Rattle.lop_chain.specs.Then.{MadeThen, each_total, each_sound};
 

@@ -1,4 +1,4 @@
-//! An op in front of a sink.
+//! An op before a sink.
 ghost use Rattle.std.specs.Prelude.{◌≡◌, refl};
 ghost use Rattle.std.proofs.Common.{◌∙◌};
 ghost use Rattle.lop_chain.specs.Rows.{Kinds};

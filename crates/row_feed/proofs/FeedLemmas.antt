@@ -1,38 +1,36 @@
 -- The rows of sources, one after the other.
 use Rattle.std.proofs.Common.{◌≡◌, ℕ, suc, ◌+◌, ◌-◌, ◌<◌, ◌≤◌, zero, List, [], ◌∷◌, ◌++◌, length, map, Option, Result, Ok, Err, IfErr, OnOk, OnErr, append_assoc, refl, sym, ap, ◌∙◌, subst, arith}
 use Rattle.std.specs.List.{range_with_len}
-use Rattle.dia_defs.specs.declared.kind.Kind.TheVariants.{Text}
-use Rattle.dia_defs.specs.Rows.{Row, kinds_of}
-use Rattle.dia_defs.specs.Pieces.{line_row, line_rows, lines_of}
-use Rattle.dia_defs.specs.Scripts.{LocalOp}
-use Rattle.dia_defs.specs.Lists.{number_row, rows_through}
-use Rattle.dia_defs.specs.Sound.{AreSoundOps}
+use Rattle.row_defs.specs.declared.kind.Kind.TheVariants.{Text}
+use Rattle.row_defs.specs.Rows.{Row, kinds_of, number_row}
+use Rattle.row_defs.specs.Pieces.{line_row, line_rows, lines_of}
+use Rattle.row_defs.specs.LocalOps.{LocalOp, rows_through, AreSoundOps}
 use Rattle.std.proofs.lemmas.List.Concat.{flat_map-append}
-use Rattle.dia_defs.specs.Runs.{row_text}
+use Rattle.row_defs.specs.Printed.{row_text}
 use Rattle.dia_edge.specs.Counts.{HasRisen}
-use Rattle.dia_edge.specs.Sinks.{TookFront}
+use Rattle.dia_edge.specs.Sinks.{TookPrefix}
 use Rattle.dia_edge.specs.Sinks as sinks
 use Rattle.text_out.specs.Carrying.{CarriesOn}
-use Rattle.text_out.proofs.CarryLemmas.{front_after, front_more}
+use Rattle.text_out.proofs.CarryLemmas.{prefix_after, prefix_more}
 use Rattle.row_feed.specs.Sinks.{texts_of_rows}
-use Rattle.lop_chain.specs.Calls.{TookAll, TookAllMade, TookSome, TookSomeMade, TookAllBut}
+use Rattle.lop_chain.specs.Calls.{TookRows, TookAllMade, TookSome, TookSomeMade, TookAllBut}
 use Rattle.lop_chain.specs.Chains.{chain_ops}
 use Rattle.lop_chain.specs.Made.{MakesAsBefore}
 use Rattle.lop_chain.specs.Ops.{rows_from}
 use Rattle.lop_chain.specs.declared.chain.Chain.{Chain}
 use Rattle.lop_chain.specs.declared.sink.RowSink.{Ghosts}
 
-among_lines : (front : List Row) (row : Row) (rest : List Row) (lines : List (List ℕ)) → front ++ row ∷ rest ≡ map line_row lines → kinds_of row ≡ Text ∷ []
+among_lines : (prefix : List Row) (row : Row) (rest : List Row) (lines : List (List ℕ)) → prefix ++ row ∷ rest ≡ map line_row lines → kinds_of row ≡ Text ∷ []
 among_lines [] row rest [] is = cc
 among_lines [] row rest (line ∷ lines) is = let same : row ≡ line_row line = cc in ap kinds_of same
-among_lines (r ∷ front) row rest [] is = cc
-among_lines (r ∷ front) row rest (line ∷ lines) is =
-    let later : front ++ row ∷ rest ≡ map line_row lines = cc in
-    among_lines front row rest lines later
+among_lines (r ∷ prefix) row rest [] is = cc
+among_lines (r ∷ prefix) row rest (line ∷ lines) is =
+    let later : prefix ++ row ∷ rest ≡ map line_row lines = cc in
+    among_lines prefix row rest lines later
 
 -- a line's row has one text
-pub line_kinds : (front : List Row) (row : Row) (rest : List Row) (bytes : List ℕ) → front ++ row ∷ rest ≡ line_rows bytes → kinds_of row ≡ Text ∷ []
-line_kinds front row rest bytes is = among_lines front row rest (lines_of bytes) is
+pub line_kinds : (prefix : List Row) (row : Row) (rest : List Row) (bytes : List ℕ) → prefix ++ row ∷ rest ≡ line_rows bytes → kinds_of row ≡ Text ∷ []
+line_kinds prefix row rest bytes is = among_lines prefix row rest (lines_of bytes) is
 
 -- a chain that makes what another one made
 abbrev pub IsSame : Chain → Chain → Type 0
@@ -41,9 +39,9 @@ IsSame x y = MakesAsBefore (λ (c : Chain) from to. AreSoundOps from (chain_ops 
 module _ {S D R : Type 0} (g : Ghosts S D R) where
   -- what the first of a chain made is what it makes
   pub all_made : (x y : Chain) (row : Row) (s : S) (d : D) (t : S) (b : D) → IsSame x y → TookAllMade g (λ rows. rows ≡ rows_through (chain_ops y) row) s d t b
-      → TookAll g s d (rows_through (chain_ops x) row) t b
+      → TookRows g s d (rows_through (chain_ops x) row) t b
   all_made x y row s d t b same h =
-      let P : List Row → Type 0 = λ rows. TookAll g s d rows t b in
+      let P : List Row → Type 0 = λ rows. TookRows g s d rows t b in
       subst P (same.made row h.rows h.made) h.all
 
   pub some_made : (x y : Chain) (row : Row) (s : S) (d : D) (e : R) (t : S) (b : D) → IsSame x y → TookSomeMade g (λ rows. rows ≡ rows_through (chain_ops y) row) s d e t b
@@ -53,9 +51,9 @@ module _ {S D R : Type 0} (g : Ghosts S D R) where
       subst P (same.made row h.rows h.made) h.some
 
   pub all_made_at : (x y : Chain) (row at : Row) (s : S) (d : D) (t : S) (b : D) → row ≡ at → IsSame x y → TookAllMade g (λ rows. rows ≡ rows_through (chain_ops y) row) s d t b
-      → TookAll g s d (rows_through (chain_ops x) at) t b
+      → TookRows g s d (rows_through (chain_ops x) at) t b
   all_made_at x y row at s d t b is same h =
-      let P : Row → Type 0 = λ r. TookAll g s d (rows_through (chain_ops x) r) t b in
+      let P : Row → Type 0 = λ r. TookRows g s d (rows_through (chain_ops x) r) t b in
       subst P is (all_made x y row s d t b same h)
 
   pub some_made_at : (x y : Chain) (row at : Row) (s : S) (d : D) (e : R) (t : S) (b : D) → row ≡ at → IsSame x y → TookSomeMade g (λ rows. rows ≡ rows_through (chain_ops y) row) s d e t b
@@ -88,15 +86,15 @@ mapped_long f (x ∷ xs) = ap suc (mapped_long f xs)
 
 -- printing ------------------------------------------------------------------------------------------------------------
 
--- some rows were printed, and then a front of the next
-pub printed_front : (a m c : Option (List ℕ)) (w v : List ℕ) (rows front : List Row) (next : Row) (back : List Row) → rows ≡ front ++ next ∷ back
-    → CarriesOn a w (texts_of_rows front) m v → TookFront m (v ++ row_text next) c → TookFront a (w ++ texts_of_rows rows) c
-printed_front a m c w v rows front next back parts before refused =
-    let Took : List ℕ → Type 0 = λ t. TookFront a (w ++ t) c in
-    let texts : texts_of_rows rows ≡ (texts_of_rows front ++ row_text next) ++ texts_of_rows back =
-    ap texts_of_rows parts ∙ flat_map-append row_text front (next ∷ back) ∙ sym (append_assoc (texts_of_rows front) (row_text next) (texts_of_rows back)) in
-    subst Took (sym texts) (front_more a c w (texts_of_rows front ++ row_text next) (texts_of_rows back)
-    (front_after a m c w v (texts_of_rows front) (row_text next) before refused))
+-- some rows were printed, and then a prefix of the next
+pub printed_prefix : (a m c : Option (List ℕ)) (w v : List ℕ) (rows prefix : List Row) (next : Row) (back : List Row) → rows ≡ prefix ++ next ∷ back
+    → CarriesOn a w (texts_of_rows prefix) m v → TookPrefix m (v ++ row_text next) c → TookPrefix a (w ++ texts_of_rows rows) c
+printed_prefix a m c w v rows prefix next back parts before refused =
+    let Took : List ℕ → Type 0 = λ t. TookPrefix a (w ++ t) c in
+    let texts : texts_of_rows rows ≡ (texts_of_rows prefix ++ row_text next) ++ texts_of_rows back =
+    ap texts_of_rows parts ∙ flat_map-append row_text prefix (next ∷ back) ∙ sym (append_assoc (texts_of_rows prefix) (row_text next) (texts_of_rows back)) in
+    subst Took (sym texts) (prefix_more a c w (texts_of_rows prefix ++ row_text next) (texts_of_rows back)
+    (prefix_after a m c w v (texts_of_rows prefix) (row_text next) before refused))
 
 pub risen_after : (a b c : ℕ) → a ≤ b → HasRisen b c → HasRisen a c
 risen_after a b c low h = omega arith
@@ -110,8 +108,8 @@ module _ {A T E : Type 0} (r : Result T E) (taken : A → Option (List ℕ)) (fa
   pub lent_ok : (before : Option (List ℕ)) (text : List ℕ) (x y : A) → OnOk r (sinks.TookAll before text (taken x)) → y ≡ x → OnOk r (sinks.TookAll before text (taken y))
   lent_ok before text x y h is = let P : A → Type 0 = λ a. OnOk r (sinks.TookAll before text (taken a)) in subst P (sym is) h
 
-  pub lent_front : (before : Option (List ℕ)) (text : List ℕ) (x y : A) → OnErr r (TookFront before text (taken x)) → y ≡ x → OnErr r (TookFront before text (taken y))
-  lent_front before text x y h is = let P : A → Type 0 = λ a. OnErr r (TookFront before text (taken a)) in subst P (sym is) h
+  pub lent_prefix : (before : Option (List ℕ)) (text : List ℕ) (x y : A) → OnErr r (TookPrefix before text (taken x)) → y ≡ x → OnErr r (TookPrefix before text (taken y))
+  lent_prefix before text x y h is = let P : A → Type 0 = λ a. OnErr r (TookPrefix before text (taken a)) in subst P (sym is) h
 
   pub lent_rose : (n : ℕ) (x y : A) → OnErr r (HasRisen n (faults x)) → y ≡ x → OnErr r (HasRisen n (faults y))
   lent_rose n x y h is = let P : A → Type 0 = λ a. OnErr r (HasRisen n (faults a)) in subst P (sym is) h

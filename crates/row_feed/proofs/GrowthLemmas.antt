@@ -5,11 +5,11 @@ use Rattle.std.proofs.Math.Dec.{ltb}
 use Rattle.std.proofs.Math.Nat.{mul-le-mul_right}
 use Rattle.std.specs.List.{range_with_len, flat_map, AllByRecursion, list_all}
 use Rattle.std.proofs.lemmas.List.{length-drop}
-use Rattle.dia_defs.specs.Rows.{Cell, int, text, Row, Fits, longest_text}
-use Rattle.dia_defs.specs.Texts.{is_blank, ended_word, words_after, words_in_text}
-use Rattle.dia_defs.specs.Values.{Expr, column, number, literal, math, is_zero, compare, choose, len, num, spelled, part, Part, front, back, nth_word, number_in, bytes_in, value_of, part_of}
-use Rattle.dia_defs.specs.Scripts.{LocalOp, map_op, filter_op, words_op, spread_op}
-use Rattle.dia_defs.specs.Lists.{number_row, raised, with_word, rows_through}
+use Rattle.row_defs.specs.Rows.{Cell, int, text, Row, Fits, number_row}
+use Rattle.row_defs.specs.Limits.{longest_text}
+use Rattle.row_defs.specs.Texts.{is_blank, ended_word, words_after, words_in_text}
+use Rattle.row_defs.specs.Values.{Expr, column, number, literal, math, is_zero, compare, choose, len, num, spelled, part, Part, prefix, suffix, nth_word, number_in, bytes_in, value_of, part_of}
+use Rattle.row_defs.specs.LocalOps.{LocalOp, map_op, filter_op, words_op, spread_op, raised, with_word, rows_through}
 use Rattle.dia_lines.specs.Fitting.{AllFit}
 use Rattle.lop_chain.specs.Ops.{rows_from}
 use Rattle.row_feed.specs.Growth.{IsShort, AreShort, is_plain, growth}
@@ -109,8 +109,8 @@ words_short n run (b ∷ bytes) h =
 -- values --------------------------------------------------------------------------------------------------------------
 
 part_short : (op : Part) (n : ℕ) (bytes : List ℕ) → length bytes ≤ longest_text → length (part_of op n bytes) ≤ longest_text
-part_short front n bytes h = omega (arith, length-take n bytes, h)
-part_short back n bytes h = omega (arith, length-drop n bytes, h)
+part_short prefix n bytes h = omega (arith, length-take n bytes, h)
+part_short suffix n bytes h = omega (arith, length-drop n bytes, h)
 part_short nth_word n bytes h =
     all_at (λ (w : List ℕ). length w ≤ longest_text) (words_in_text bytes) n [] (words_short longest_text [] bytes (omega (arith, h))) (omega arith)
 

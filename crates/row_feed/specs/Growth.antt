@@ -1,9 +1,10 @@
 -- How many rows local lines make of one row, at most.
 use Rattle.std.specs.Prelude.{ℕ, ◌*◌, ◌-◌, ◌^◌, ◌≤◌, nat_le, Bool, true, false, ◌&&◌, List, [], ◌∷◌, length, ⊤}
 use Rattle.std.specs.List.{AllByRecursion, list_all}
-use Rattle.dia_defs.specs.Values.{Expr, literal, choose, spelled, part}
-use Rattle.dia_defs.specs.Rows.{Cell, int, text, Row, longest_text}
-use Rattle.dia_defs.specs.Scripts.{LocalOp, map_op, filter_op, words_op, spread_op}
+use Rattle.row_defs.specs.Values.{Expr, literal, choose, spelled, part}
+use Rattle.row_defs.specs.Rows.{Cell, int, text, Row}
+use Rattle.row_defs.specs.Limits.{longest_text}
+use Rattle.row_defs.specs.LocalOps.{LocalOp, map_op, filter_op, words_op, spread_op}
 
 -- a cell whose text, if it is one, is no longer than a text may be
 abbrev pub IsShort : Cell → Type 0

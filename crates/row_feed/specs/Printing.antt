@@ -2,8 +2,8 @@
 use Rattle.std.specs.Prelude.{ℕ, List, ◌++◌, Option}
 use Rattle.std.proofs.Common.{sym, subst}
 use Rattle.std.proofs.lemmas.List.Concat.{flat_map-append}
-use Rattle.dia_defs.specs.Rows.{Row}
-use Rattle.dia_defs.specs.Runs.{row_text}
+use Rattle.row_defs.specs.Rows.{Row}
+use Rattle.row_defs.specs.Printed.{row_text}
 use Rattle.text_out.specs.Carrying.{CarriesOn}
 use Rattle.text_out.proofs.CarryLemmas.{carries_trans}
 use Rattle.row_feed.specs.Sinks.{texts_of_rows}

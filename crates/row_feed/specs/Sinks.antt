@@ -1,9 +1,9 @@
 -- What the sinks hold of the rows that they took.
 use Rattle.std.specs.Prelude.{◌≡◌, ℕ, ◌+◌, ◌-◌, ◌%◌, ◌^◌, min, List}
 use Rattle.std.specs.List.{flat_map, sum_by}
-use Rattle.dia_defs.specs.Rows.{Row}
-use Rattle.dia_defs.specs.Values.{column, number_in, value_of}
-use Rattle.dia_defs.specs.Runs.{row_text}
+use Rattle.row_defs.specs.Rows.{Row}
+use Rattle.row_defs.specs.Values.{column, number_in, value_of}
+use Rattle.row_defs.specs.Printed.{row_text}
 
 -- so many more, where the count stands still at the largest number
 abbrev pub counted : ℕ → ℕ → ℕ → Type 0

@@ -1,11 +1,10 @@
 -- The rows of sources.
 use Rattle.std.specs.Prelude.{◌≡◌, ℕ, List, [], ◌∷◌, map}
 use Rattle.std.specs.List.{range_with_len}
-use Rattle.dia_defs.specs.declared.kind.Kind.{Kind}
-use Rattle.dia_defs.specs.declared.kind.Kind.TheVariants.{Int, Text}
-use Rattle.dia_defs.specs.Rows.{Row}
-use Rattle.dia_defs.specs.Pieces.{line_rows}
-use Rattle.dia_defs.specs.Lists.{number_row}
+use Rattle.row_defs.specs.declared.kind.Kind.{Kind}
+use Rattle.row_defs.specs.declared.kind.Kind.TheVariants.{Int, Text}
+use Rattle.row_defs.specs.Rows.{Row, number_row}
+use Rattle.row_defs.specs.Pieces.{line_rows}
 use Rattle.row_feed.specs.declared.source.Source.{Source}
 use Rattle.row_feed.specs.declared.source.Source.TheVariants.{Lines, Numbers}
 

@@ -1,12 +1,12 @@
 //! Pushes the rows of a source through a chain.
 ghost use Rattle.std.specs.Prelude.{◌≡◌, ◌≤◌, ◌^◌, ◌∷◌, [], ℕ, List, map, false, OnOk, IfErr};
 ghost use Rattle.std.specs.List.{range_with_len};
-ghost use Rattle.dia_defs.specs.declared.kind.Kind.TheVariants.{Int, Text};
-ghost use Rattle.dia_defs.specs.Pieces.{line_rows};
-ghost use Rattle.dia_defs.specs.Lists.{number_row};
-ghost use Rattle.dia_defs.specs.Sound.{AreSoundOps};
+ghost use Rattle.row_defs.specs.declared.kind.Kind.TheVariants.{Int, Text};
+ghost use Rattle.row_defs.specs.Pieces.{line_rows};
+ghost use Rattle.row_defs.specs.Rows.{number_row};
+ghost use Rattle.row_defs.specs.LocalOps.{AreSoundOps};
 ghost use Rattle.lop_chain.specs.Rows.{Kinds};
-ghost use Rattle.lop_chain.specs.Calls.{TookAll, TookSome};
+ghost use Rattle.lop_chain.specs.Calls.{TookRows, TookSome};
 ghost use Rattle.lop_chain.specs.Chains.{chain_ops};
 ghost use Rattle.lop_chain.specs.Ops.{rows_from};
 ghost use Rattle.row_feed.specs.Sources.{IsSource, source_kinds, source_rows};
@@ -28,7 +28,7 @@ fn feed_lines<R: Wait, S: RowSink>(
     requires fits { (to : Kinds) × AreSoundOps (Text ∷ []) (chain_ops chain.old) to × S.accepts sink.old to }
     requires serves { S.serves sink.old desk.old }
     requires is_open { S.is_shut sink.old ≡ false }
-    ensures ok { OnOk result (TookAll S.RowSink sink.old desk.old (rows_from (chain_ops chain.old) rows.now) sink.new desk.new) }
+    ensures ok { OnOk result (TookRows S.RowSink sink.old desk.old (rows_from (chain_ops chain.old) rows.now) sink.new desk.new) }
     ensures err { IfErr result (λ e. TookSome S.RowSink sink.old desk.old (rows_from (chain_ops chain.old) rows.now) e sink.new desk.new) }
     ensures follows { S.follows desk.old desk.new }
     ensures stays { S.stays sink.old sink.new }
@@ -53,7 +53,7 @@ fn feed_numbers<R: Wait, S: RowSink>(
     requires fits { (to : Kinds) × AreSoundOps (Int ∷ []) (chain_ops chain.old) to × S.accepts sink.old to }
     requires serves { S.serves sink.old desk.old }
     requires is_open { S.is_shut sink.old ≡ false }
-    ensures ok { OnOk result (TookAll S.RowSink sink.old desk.old (rows_from (chain_ops chain.old) (map number_row (range_with_len 0 count))) sink.new desk.new) }
+    ensures ok { OnOk result (TookRows S.RowSink sink.old desk.old (rows_from (chain_ops chain.old) (map number_row (range_with_len 0 count))) sink.new desk.new) }
     ensures err { IfErr result (λ e. TookSome S.RowSink sink.old desk.old (rows_from (chain_ops chain.old) (map number_row (range_with_len 0 count))) e sink.new desk.new) }
     ensures follows { S.follows desk.old desk.new }
     ensures stays { S.stays sink.old sink.new }
@@ -83,7 +83,7 @@ pub fn feed<'k, R: Wait, S: RowSink>(
     requires fits { (to : Kinds) × AreSoundOps (source_kinds source.now) (chain_ops chain.old) to × S.accepts sink.old to }
     requires serves { S.serves sink.old desk.old }
     requires is_open { S.is_shut sink.old ≡ false }
-    ensures ok { OnOk result (TookAll S.RowSink sink.old desk.old (rows_from (chain_ops chain.old) (source_rows source.now)) sink.new desk.new) }
+    ensures ok { OnOk result (TookRows S.RowSink sink.old desk.old (rows_from (chain_ops chain.old) (source_rows source.now)) sink.new desk.new) }
     ensures err { IfErr result (λ e. TookSome S.RowSink sink.old desk.old (rows_from (chain_ops chain.old) (source_rows source.now)) e sink.new desk.new) }
     ensures follows { S.follows desk.old desk.new }
     ensures stays { S.stays sink.old sink.new }

@@ -8,8 +8,8 @@ ghost use Rattle.row_feed.specs.Sources.{source_rows};
 
 use crate::source::Source;
 use dia_expr::Expr;
-use dia_item::LONGEST_TEXT;
 use lop_chain::ScriptOp;
+use row_defs::limits::LONGEST_TEXT;
 
 /// How many rows a source has, or `u64::MAX` where it has more.
 fn row_count(source: &Source<'_>) -> u64

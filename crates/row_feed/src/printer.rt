@@ -1,12 +1,12 @@
 //! Prints rows.
 ghost use Rattle.std.specs.Prelude.{◌≡◌, ◌≤◌, ◌++◌, [], false, OnOk, OnErr, refl, ⊤};
 ghost use Rattle.std.proofs.Common.{arith, ◌∙◌};
-ghost use Rattle.dia_defs.specs.Runs.{row_text};
+ghost use Rattle.row_defs.specs.Printed.{row_text};
 ghost use Rattle.dia_edge.specs.Counts.{HasRisen};
-ghost use Rattle.dia_edge.specs.Sinks.{TookAll, TookFront};
+ghost use Rattle.dia_edge.specs.Sinks.{TookAll, TookPrefix};
 ghost use Rattle.text_out.specs.Carrying.{CarriesOn};
 ghost use Rattle.text_out.proofs.CarryLemmas.{carries_none};
-ghost use Rattle.dia_defs.specs.Sound.{AreSoundOps};
+ghost use Rattle.row_defs.specs.LocalOps.{AreSoundOps};
 ghost use Rattle.lop_chain.specs.Rows.{Kinds};
 ghost use Rattle.lop_chain.specs.Chains.{chain_ops};
 ghost use Rattle.lop_chain.specs.Ops.{rows_from};
@@ -52,7 +52,7 @@ impl<'b, 'o, S: Sink> RowSink for Printer<'b, 'o, S> {
 
     ghost follows = { λ d e. ⊤ };
 
-    ghost refused = { λ a d row e b f. TookFront (S.taken a.out.now) (a.buffer.now ++ row_text row) (S.taken b.out.now)
+    ghost refused = { λ a d row e b f. TookPrefix (S.taken a.out.now) (a.buffer.now ++ row_text row) (S.taken b.out.now)
         × HasRisen (S.faults a.out.now) (S.faults b.out.now) };
 
     // The names of the loans stay, so that their lender knows what they hold after the call.
@@ -99,7 +99,7 @@ fn feed_printer<'k, 'b, 'o, R: Wait, S: Sink>(
     requires fits { (to : Kinds) × AreSoundOps (source_kinds source.now) (chain_ops chain.old) to }
     requires is_open { printer.old.shut ≡ false }
     ensures ok { OnOk result (CarriesOn (S.taken printer.old.out.now) printer.old.buffer.now (texts_of_rows (rows_from (chain_ops chain.old) (source_rows source.now))) (S.taken printer.new.out.now) printer.new.buffer.now) }
-    ensures front { OnErr result (TookFront (S.taken printer.old.out.now) (printer.old.buffer.now ++ texts_of_rows (rows_from (chain_ops chain.old) (source_rows source.now))) (S.taken printer.new.out.now)) }
+    ensures prefix { OnErr result (TookPrefix (S.taken printer.old.out.now) (printer.old.buffer.now ++ texts_of_rows (rows_from (chain_ops chain.old) (source_rows source.now))) (S.taken printer.new.out.now)) }
     ensures rose { OnErr result (HasRisen (S.faults printer.old.out.now) (S.faults printer.new.out.now)) }
     ensures counts { S.faults printer.old.out.now ≤ S.faults printer.new.out.now }
     ensures out { printer.new.out.ghost_name ≡ printer.old.out.ghost_name }
@@ -121,7 +121,7 @@ fn print_through<'k, 'b, 'o, R: Wait, S: Sink>(
     requires is_open { printer.old.shut ≡ false }
     requires empty { printer.old.buffer.now ≡ [] }
     ensures ok { OnOk result (TookAll (S.taken printer.old.out.now) (texts_of_rows (rows_from (chain_ops chain.old) (source_rows source.now))) (S.taken printer.new.out.now)) }
-    ensures front { OnErr result (TookFront (S.taken printer.old.out.now) (texts_of_rows (rows_from (chain_ops chain.old) (source_rows source.now))) (S.taken printer.new.out.now)) }
+    ensures prefix { OnErr result (TookPrefix (S.taken printer.old.out.now) (texts_of_rows (rows_from (chain_ops chain.old) (source_rows source.now))) (S.taken printer.new.out.now)) }
     ensures rose { OnErr result (HasRisen (S.faults printer.old.out.now) (S.faults printer.new.out.now)) }
     ensures counts { S.faults printer.old.out.now ≤ S.faults printer.new.out.now }
     ensures out { printer.new.out.ghost_name ≡ printer.old.out.ghost_name }
@@ -135,7 +135,7 @@ fn print_through<'k, 'b, 'o, R: Wait, S: Sink>(
 
 /// Prints all rows that a chain makes of a source's, through an empty buffer. `room` is for the rows of numbers.
 ///
-/// After a failure the sink took some front of the texts.
+/// After a failure the sink took some prefix of the texts.
 pub fn print_all<R: Wait, S: Sink>(
     rt: &R,
     source: &Source<'_>,
@@ -148,7 +148,7 @@ pub fn print_all<R: Wait, S: Sink>(
     requires fits { (to : Kinds) × AreSoundOps (source_kinds source.now) (chain_ops chain.old) to }
     requires empty { buffer.old ≡ [] }
     ensures ok { OnOk result (TookAll (S.taken out.old) (texts_of_rows (rows_from (chain_ops chain.old) (source_rows source.now))) (S.taken out.new)) }
-    ensures front { OnErr result (TookFront (S.taken out.old) (texts_of_rows (rows_from (chain_ops chain.old) (source_rows source.now))) (S.taken out.new)) }
+    ensures prefix { OnErr result (TookPrefix (S.taken out.old) (texts_of_rows (rows_from (chain_ops chain.old) (source_rows source.now))) (S.taken out.new)) }
     ensures rose { OnErr result (HasRisen (S.faults out.old) (S.faults out.new)) }
     ensures counts { S.faults out.old ≤ S.faults out.new }
 {

@@ -1,7 +1,7 @@
 //! Adds up a column.
 ghost use Rattle.std.specs.Prelude.{◌≡◌, ◌^◌, ◌<◌, length, false, slice_get, Some, ⊤, refl};
 ghost use Rattle.std.proofs.Common.{arith, length-append, ◌∙◌};
-ghost use Rattle.dia_defs.specs.declared.kind.Kind.TheVariants.{Int};
+ghost use Rattle.row_defs.specs.declared.kind.Kind.TheVariants.{Int};
 ghost use Rattle.row_feed.specs.Sinks.{counted, summed, added};
 ghost use Rattle.row_feed.specs.Sums.{summed-none, summed-more};
 

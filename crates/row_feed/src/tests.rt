@@ -1,7 +1,7 @@
 //! Numbers fed through chains.
 ghost use Rattle.std.specs.Prelude.{◌∷◌, [], IfOk};
-ghost use Rattle.dia_defs.specs.declared.kind.Kind.TheVariants.{Int};
-ghost use Rattle.dia_defs.specs.Sound.{AreSoundOps};
+ghost use Rattle.row_defs.specs.declared.kind.Kind.TheVariants.{Int};
+ghost use Rattle.row_defs.specs.LocalOps.{AreSoundOps};
 ghost use Rattle.lop_chain.specs.Ops.{ops_in};
 
 use super::*;

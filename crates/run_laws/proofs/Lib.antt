@@ -1,2 +1,3 @@
 pub mod WorkLemmas
 pub mod RunLemmas
+pub mod KindLemmas

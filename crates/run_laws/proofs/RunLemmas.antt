@@ -5,13 +5,16 @@ use Rattle.std.specs.List.{AllByRecursion, flat_map}
 use Rattle.std.proofs.lemmas.Bool.{or_left, or_right, true≢false, eqb-true, eq-eqb, ne_eqb}
 use Rattle.std.proofs.lemmas.List.Concat.{flat_map-append}
 use Rattle.std.proofs.lemmas.List.Elements.{All-from_recursion}
-use Rattle.dia_defs.specs.Rows.{Row}
-use Rattle.dia_defs.specs.Scripts.{LocalOp, Form, lines_form, generate_form, local_form, form_operands, Action, action_operand, print_action, size_action, sum_action, Statement, line, act, Script, statement_at}
-use Rattle.dia_defs.specs.Lists.{Inputs, Lists, IsLine, block_of_form, block_of_action, rows_made, rows_through}
-use Rattle.dia_defs.specs.Work.{Item, do_line, do_action, has_number, work_of}
-use Rattle.dia_defs.specs.Runs.{IsRight, IsRightStatement, block_of, block_of_statement, IsRun, action_text, item_text, statement_text, run_texts}
+use Rattle.row_defs.specs.Rows.{Row}
+use Rattle.row_defs.specs.LocalOps.{LocalOp, rows_made, rows_through}
+use Rattle.script_defs.specs.Scripts.{Form, lines_form, generate_form, local_form, form_operands, Action, action_operand, print_action, size_action, sum_action, Statement, line, act, Script, statement_at}
+use Rattle.row_defs.specs.Inputs.{Inputs}
+use Rattle.script_defs.specs.Lists.{Lists, IsLine, failure_of_form, failure_of_action}
+use Rattle.script_defs.specs.Work.{Item, do_line, do_action, has_number, work_of}
+use Rattle.script_defs.specs.Runs.{IsRight, IsRightStatement, failure_of, failure_of_statement, IsRun, action_text, item_text, statement_text, run_texts}
 use Rattle.run_laws.specs.Order.{lines_among, IsReadyLine, IsReadyAction, IsReady, AreInOrder, InWork}
-use Rattle.run_laws.specs.Laws.{IsRunOf, texts_among, with_list, no_lists, IsChain}
+use Rattle.run_laws.specs.Laws.{IsRunOf, texts_among, with_list, no_lists}
+use Rattle.script_defs.specs.Plans.{IsChain}
 use Rattle.run_laws.proofs.WorkLemmas.{or_cases, has_left, has_right, has_cases, is_one, every_map}
 
 -- lists -------------------------------------------------------------------------------------------------------------
@@ -102,15 +105,15 @@ same_text lists more (sum_action of c) e = rw e refl
 
 item_grows : (script : Script) (inputs : Inputs) (lists more : Lists) (done : List ℕ) → Grows lists more → ((l : ℕ) → is_some (lists l) ≡ has_number done l)
     → (item : Item) → IsReady script done item
-    → (block_of script inputs more item ≡ block_of script inputs lists item) × (item_text script more item ≡ item_text script lists item)
+    → (failure_of script inputs more item ≡ failure_of script inputs lists item) × (item_text script more item ≡ item_text script lists item)
 item_grows script inputs lists more done g listed (do_line n) r = rw r.is (refl, refl)
 item_grows script inputs lists more done g listed (do_action n) r =
     let same = same_operand script inputs lists more done n g listed r in
     rw r.is (rw same refl, same_text lists more r.action same)
 
 free_grows : (script : Script) (inputs : Inputs) (lists more : Lists) (done : List ℕ) → Grows lists more → ((l : ℕ) → is_some (lists l) ≡ has_number done l)
-    → (items : List Item) → AllByRecursion (IsReady script done) items → AllByRecursion (λ item. block_of script inputs lists item ≡ None) items
-    → AllByRecursion (λ item. block_of script inputs more item ≡ None) items
+    → (items : List Item) → AllByRecursion (IsReady script done) items → AllByRecursion (λ item. failure_of script inputs lists item ≡ None) items
+    → AllByRecursion (λ item. failure_of script inputs more item ≡ None) items
 free_grows script inputs lists more done g listed [] r h = tt
 free_grows script inputs lists more done g listed (item ∷ items) r h =
     ((item_grows script inputs lists more done g listed item r.0).0 ∙ h.0, free_grows script inputs lists more done g listed items r.1 h.1)
@@ -148,7 +151,7 @@ listed_more lists done n rows listed l = elim (eqb l n) as (λ t. eqb l n ≡ t 
 
 pub line_goes_on : (script : Script) (inputs : Inputs) (lists : Lists) (done left : List Item) (n : ℕ) (name : List ℕ) (form : Form) (rows : List Row)
     → InWork script done (do_line n ∷ left) → IsRunOf script inputs lists done → statement_at script n ≡ Some (line name form)
-    → IsLine inputs lists form rows → block_of_form inputs form ≡ None
+    → IsLine inputs lists form rows → failure_of_form inputs form ≡ None
     → IsRunOf script inputs (with_list lists n rows) (done ++ do_line n ∷ [])
     × (texts_among script (with_list lists n rows) (done ++ do_line n ∷ []) ≡ texts_among script lists done)
 line_goes_on script inputs lists done left n name form rows w run is made free =
@@ -161,9 +164,9 @@ line_goes_on script inputs lists done left n name form rows w run is made free =
         right = every_push (IsRight script inputs more) done (do_line n)
             (every_map (IsRight script inputs lists) (IsRight script inputs more) (λ i h. right_grows script inputs lists more i grows h) done run.right)
             (subst Right (sym is) (rows, here, line_grows inputs lists more form rows grows made));
-        free = every_push (λ item. block_of script inputs more item ≡ None) done (do_line n)
+        free = every_push (λ item. failure_of script inputs more item ≡ None) done (do_line n)
             (free_grows script inputs lists more (lines_among done) grows run.listed done w.ready run.free)
-            (ap (block_of_statement inputs more) is ∙ free);
+            (ap (failure_of_statement inputs more) is ∙ free);
       },
       flat_map-append (item_text script more) done (do_line n ∷ []) ∙ append-nil (texts_among script more done)
           ∙ texts_grow script inputs lists more (lines_among done) grows run.listed done w.ready,
@@ -171,14 +174,14 @@ line_goes_on script inputs lists done left n name form rows w run is made free =
 
 pub action_goes_on : (script : Script) (inputs : Inputs) (lists : Lists) (done left : List Item) (n : ℕ) (action : Action)
     → InWork script done (do_action n ∷ left) → IsRunOf script inputs lists done → statement_at script n ≡ Some (act action)
-    → block_of_action lists action ≡ None
+    → failure_of_action lists action ≡ None
     → IsRunOf script inputs lists (done ++ do_action n ∷ [])
     × (texts_among script lists (done ++ do_action n ∷ []) ≡ texts_among script lists done ++ action_text lists action)
 action_goes_on script inputs lists done left n action w run is free = (
   record {
     listed = λ l. rw (lines_push_action done n) (run.listed l);
     right = every_push (IsRight script inputs lists) done (do_action n) run.right tt;
-    free = every_push (λ item. block_of script inputs lists item ≡ None) done (do_action n) run.free (ap (block_of_statement inputs lists) is ∙ free);
+    free = every_push (λ item. failure_of script inputs lists item ≡ None) done (do_action n) run.free (ap (failure_of_statement inputs lists) is ∙ free);
   },
   flat_map-append (item_text script lists) done (do_action n ∷ [])
       ∙ ap (λ (t : List ℕ). texts_among script lists done ++ t) (append-nil (item_text script lists (do_action n)) ∙ ap (statement_text lists) is),
@@ -204,13 +207,13 @@ has_at (do_action n ∷ items) l zero less is = let wrong : ⊥ = cc in absurd w
 has_at (do_line n ∷ items) l (suc k) less is = or_right (eqb n l) (has_number (lines_among items) l) (has_at items l k (omega arith) is)
 has_at (do_action n ∷ items) l (suc k) less is = has_at items l k (omega arith) is
 
-take_front : {X : Type 0} (xs ys : List X) → take (length xs) (xs ++ ys) ≡ xs
-take_front [] ys = refl
-take_front (x ∷ xs) ys = ap (λ zs. x ∷ zs) (take_front xs ys)
+take_prefix : {X : Type 0} (xs ys : List X) → take (length xs) (xs ++ ys) ≡ xs
+take_prefix [] ys = refl
+take_prefix (x ∷ xs) ys = ap (λ zs. x ∷ zs) (take_prefix xs ys)
 
-drop_front : {X : Type 0} (xs ys : List X) → drop (length xs) (xs ++ ys) ≡ ys
-drop_front [] ys = refl
-drop_front (x ∷ xs) ys = drop_front xs ys
+drop_prefix : {X : Type 0} (xs ys : List X) → drop (length xs) (xs ++ ys) ≡ ys
+drop_prefix [] ys = refl
+drop_prefix (x ∷ xs) ys = drop_prefix xs ys
 
 within_append : {X : Type 0} (xs ys : List X) → length xs ≤ length (xs ++ ys)
 within_append [] ys = omega arith
@@ -220,22 +223,22 @@ pub runs_are_runs : (script : Script) (inputs : Inputs) (lists : Lists) (done le
     → IsRun script inputs lists (length done) × (run_texts script lists (length done) ≡ texts_among script lists done)
     × (drop (length done) (work_of script) ≡ left)
 runs_are_runs script inputs lists done left w run =
-    let front : take (length done) (work_of script) ≡ done = ap (take (length done)) w.parts ∙ take_front done left in
+    let prefix : take (length done) (work_of script) ≡ done = ap (take (length done)) w.parts ∙ take_prefix done left in
     let AllRight : List Item → Type 0 = λ items. All (IsRight script inputs lists) items in
-    let AllFree : List Item → Type 0 = λ items. All (λ item. block_of script inputs lists item ≡ None) items in
+    let AllFree : List Item → Type 0 = λ items. All (λ item. failure_of script inputs lists item ≡ None) items in
     let In : List Item → ℕ → Type 0 = λ items l. Contains items (do_line l) in
     let Listed : List Item → Type 0 = λ items. (l : ℕ) → IsSome (lists l) ↔ Contains items (do_line l) in (
       record {
         within = rw w.parts (within_append done left);
-        listed = subst Listed (sym front) (λ l. (
+        listed = subst Listed (sym prefix) (λ l. (
           λ some. contains_line done l (sym (run.listed l) ∙ some),
           λ c. run.listed l ∙ has_at done l c.0 c.1 c.2,
         ));
-        right = subst AllRight (sym front) (All-from_recursion (IsRight script inputs lists) done run.right);
-        free = subst AllFree (sym front) (All-from_recursion (λ item. block_of script inputs lists item ≡ None) done run.free);
+        right = subst AllRight (sym prefix) (All-from_recursion (IsRight script inputs lists) done run.right);
+        free = subst AllFree (sym prefix) (All-from_recursion (λ item. failure_of script inputs lists item ≡ None) done run.free);
       },
-      ap (flat_map (item_text script lists)) front,
-      ap (drop (length done)) w.parts ∙ drop_front done left,
+      ap (flat_map (item_text script lists)) prefix,
+      ap (drop (length done)) w.parts ∙ drop_prefix done left,
     )
 
 -- chains -----------------------------------------------------------------------------------------------------------------

@@ -4,11 +4,11 @@ use Rattle.std.specs.List.{AllByRecursion}
 use Rattle.std.proofs.lemmas.Bool.{or_left, or_right, true≢false, eqb-true, eq-eqb, ne_eqb}
 use Rattle.std.proofs.lemmas.List.{map-append}
 use Rattle.std.proofs.lemmas.List.Folds.{list_any-append}
-use Rattle.dia_defs.specs.declared.kind.Kind.{Kind}
-use Rattle.dia_defs.specs.Scripts.{Form, lines_form, generate_form, local_form, form_operands, Action, action_operand, Statement, line, act, operands_of, Numbered, Script, statement_at}
-use Rattle.dia_defs.specs.Reading.{Earlier, Known, known_after, nothing_known}
-use Rattle.dia_defs.specs.Sound.{IsSound, IsSoundStatement, IsSoundForm, statement_kinds}
-use Rattle.dia_defs.specs.Work.{Item, do_line, do_action, has_number, closure, is_line, lines_to_do, work_from, work_of}
+use Rattle.row_defs.specs.declared.kind.Kind.{Kind}
+use Rattle.script_defs.specs.Scripts.{Form, lines_form, generate_form, local_form, form_operands, Action, action_operand, Statement, line, act, operands_of, Numbered, Script, statement_at}
+use Rattle.script_defs.specs.Reading.{Earlier, Known, known_after, nothing_known}
+use Rattle.script_defs.specs.Sound.{IsSound, IsSoundStatement, IsSoundForm, kinds_of_statement}
+use Rattle.script_defs.specs.Work.{Item, do_line, do_action, has_number, closure, is_line, lines_to_do, work_from, work_of}
 use Rattle.run_laws.specs.Order.{IsReadyLine, AreInOrder}
 
 -- numbers among others ------------------------------------------------------------------------------------------
@@ -92,11 +92,11 @@ lines_known known n (act action) kinds = refl
 follows_from : (known : Known) (n : ℕ) (script : Script) → IsSound known n script → Follows (numbers_in known.lines) n script
 follows_from known n [] h = tt
 follows_from known n (s ∷ later) h =
-    let after = known_after known s.number s.statement (statement_kinds known s.statement) in
+    let after = known_after known s.number s.statement (kinds_of_statement known s.statement) in
     let Behind : List ℕ → Type 0 = λ lines. Follows lines (s.number + 1) later in (
       h.0,
       statement_named known s.statement h.1,
-      subst Behind (lines_known known s.number s.statement (statement_kinds known s.statement)) (follows_from after (s.number + 1) later h.2),
+      subst Behind (lines_known known s.number s.statement (kinds_of_statement known s.statement)) (follows_from after (s.number + 1) later h.2),
     )
 
 -- each statement is found by its number ---------------------------------------------------------------------------

@@ -1,18 +1,21 @@
 -- Runs, item by item; chains of local lines.
 use Rattle.std.specs.Prelude.{◌≡◌, ℕ, ◌==◌, true, List, [], ◌∷◌, ◌++◌, length, drop, None, Some, is_some, if◌then◌else◌}
 use Rattle.std.specs.List.{AllByRecursion, flat_map}
-use Rattle.dia_defs.specs.Rows.{Row}
-use Rattle.dia_defs.specs.Scripts.{LocalOp, Form, local_form, Action, line, act, Script, statement_at}
-use Rattle.dia_defs.specs.Lists.{Inputs, Lists, IsLine, block_of_form, block_of_action, rows_through}
-use Rattle.dia_defs.specs.Work.{Item, do_line, do_action, has_number, work_of}
-use Rattle.dia_defs.specs.Runs.{IsRight, block_of, IsRun, action_text, item_text, run_texts}
+use Rattle.row_defs.specs.Rows.{Row}
+use Rattle.row_defs.specs.LocalOps.{LocalOp, rows_through}
+use Rattle.script_defs.specs.Scripts.{Form, Action, line, act, Script, statement_at}
+use Rattle.row_defs.specs.Inputs.{Inputs}
+use Rattle.script_defs.specs.Lists.{Lists, IsLine, failure_of_form, failure_of_action}
+use Rattle.script_defs.specs.Work.{Item, do_line, do_action, has_number, work_of}
+use Rattle.script_defs.specs.Runs.{IsRight, failure_of, IsRun, action_text, item_text, run_texts}
+use Rattle.script_defs.specs.Plans.{IsChain}
 use Rattle.run_laws.specs.Order.{lines_among, InWork}
 
 -- a run of just these items
 pub record IsRunOf (script : Script) (inputs : Inputs) (lists : Lists) (items : List Item) : Type 0 where
   pub listed : (l : ℕ) → is_some (lists l) ≡ has_number (lines_among items) l
   pub right : AllByRecursion (IsRight script inputs lists) items
-  pub free : AllByRecursion (λ item. block_of script inputs lists item ≡ None) items
+  pub free : AllByRecursion (λ item. failure_of script inputs lists item ≡ None) items
 
 -- what these items print
 abbrev pub texts_among : Script → Lists → List Item → List ℕ
@@ -30,7 +33,7 @@ abbrev pub LineGoesOn : Type 0
 LineGoesOn =
     (script : Script) (inputs : Inputs) (lists : Lists) (done left : List Item) (n : ℕ) (name : List ℕ) (form : Form) (rows : List Row)
     → InWork script done (do_line n ∷ left) → IsRunOf script inputs lists done → statement_at script n ≡ Some (line name form)
-    → IsLine inputs lists form rows → block_of_form inputs form ≡ None
+    → IsLine inputs lists form rows → failure_of_form inputs form ≡ None
     → IsRunOf script inputs (with_list lists n rows) (done ++ do_line n ∷ [])
     × (texts_among script (with_list lists n rows) (done ++ do_line n ∷ []) ≡ texts_among script lists done)
 
@@ -39,7 +42,7 @@ abbrev pub ActionGoesOn : Type 0
 ActionGoesOn =
     (script : Script) (inputs : Inputs) (lists : Lists) (done left : List Item) (n : ℕ) (action : Action)
     → InWork script done (do_action n ∷ left) → IsRunOf script inputs lists done → statement_at script n ≡ Some (act action)
-    → block_of_action lists action ≡ None
+    → failure_of_action lists action ≡ None
     → IsRunOf script inputs lists (done ++ do_action n ∷ [])
     × (texts_among script lists (done ++ do_action n ∷ []) ≡ texts_among script lists done ++ action_text lists action)
 
@@ -50,13 +53,7 @@ RunsAreRuns =
     → IsRun script inputs lists (length done) × (run_texts script lists (length done) ≡ texts_among script lists done)
     × (drop (length done) (work_of script) ≡ left)
 
--- from the line `root` these local lines, one after the other, lead to the line n
-abbrev pub IsChain : Script → ℕ → List LocalOp → ℕ → Type 0
-IsChain script root [] n = root ≡ n
-IsChain script root (op ∷ ops) n =
-    (m : ℕ) × (name : List ℕ) × (statement_at script m ≡ Some (line name (local_form root op))) × IsChain script m ops n
-
--- then the root is done where n is, and n's rows are what the local lines make of the root's
+-- where local lines lead from a root to n, the root is done where n is, and n's rows are what the local lines make of the root's
 abbrev pub ChainsMake : Type 0
 ChainsMake =
     (script : Script) (inputs : Inputs) (lists : Lists) (done left : List Item) (root : ℕ) (ops : List LocalOp) (n : ℕ)

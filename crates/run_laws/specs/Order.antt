@@ -1,10 +1,10 @@
 -- The order of work: each line once, behind the lines that it names, and each action behind its line.
 use Rattle.std.specs.Prelude.{◌≡◌, ℕ, true, false, List, [], ◌∷◌, ◌++◌, Some}
 use Rattle.std.specs.List.{AllByRecursion}
-use Rattle.dia_defs.specs.Scripts.{Form, form_operands, Action, action_operand, line, act, Script, statement_at}
-use Rattle.dia_defs.specs.Reading.{nothing_known}
-use Rattle.dia_defs.specs.Sound.{IsSound}
-use Rattle.dia_defs.specs.Work.{Item, do_line, do_action, has_number, work_of}
+use Rattle.script_defs.specs.Scripts.{Form, form_operands, Action, action_operand, line, act, Script, statement_at}
+use Rattle.script_defs.specs.Reading.{nothing_known}
+use Rattle.script_defs.specs.Sound.{IsSound}
+use Rattle.script_defs.specs.Work.{Item, do_line, do_action, has_number, work_of}
 
 -- the lines among items
 abbrev pub lines_among : List Item → List ℕ
@@ -41,7 +41,7 @@ pub record InWork (script : Script) (done left : List Item) : Type 0 where
   pub ready : AllByRecursion (IsReady script (lines_among done)) done
   pub order : AreInOrder script (lines_among done) left
 
--- the work of an accepted script can be done from the front
+-- the work of an accepted script can be done from the beginning
 abbrev pub WorkBegins : Type 0
 WorkBegins = (script : Script) → IsSound nothing_known 1 script → InWork script [] (work_of script)
 

@@ -2,7 +2,7 @@
 ghost use Rattle.run_laws.specs.Order.{WorkBegins, WorkGoesOn};
 ghost use Rattle.run_laws.specs.Laws.{LineGoesOn, ActionGoesOn, RunsAreRuns, ChainsMake, RootsAreDone};
 
-/// The work of an accepted script can be done from its front: each line once, behind the lines that it names, and each
+/// The work of an accepted script can be done from its beginning: each line once, behind the lines that it names, and each
 /// action behind its line.
 pub fn work_begins()
     ensures { WorkBegins }

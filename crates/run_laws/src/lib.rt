@@ -1,7 +1,7 @@
 //! The laws of work and of runs: each is the contract of a function that does nothing.
 //!
-//! The work of an accepted script can be done from its front, and a run goes on item by item. The layers above show of
-//! each step that they do which item it is. The words stand in `specs/`: Order, Laws; the definitions are `dia_defs`'.
+//! The work of an accepted script can be done from its beginning, and a run goes on item by item. The layers above show of
+//! each step that they do which item it is. The words stand in `specs/`: Order, Laws; the definitions are `script_defs`'.
 #![tactic(auto)]
 
 mod laws;

@@ -1,20 +1,21 @@
 -- What follows where no cause applies to a line.
-use Rattle.std.proofs.Common.{◌≡◌, ℕ, ◌<◌, ◌≤◌, Bool, true, false, ◌||◌, not, cond, List, [], ◌∷◌, length, drop, Option, None, Some, is_none, IsSome, unwrap_or, slice_get, refl, sym, ◌∙◌, subst, arith, length-drop}
+use Rattle.std.proofs.Common.{◌≡◌, ℕ, ◌<◌, ◌≤◌, Bool, true, false, ◌||◌, not, cond, leb, List, [], ◌∷◌, length, drop, Option, None, Some, is_none, IsSome, unwrap_or, slice_get, refl, sym, ◌∙◌, subst, arith, length-drop}
 use Rattle.std.specs.List.{list_all, list_any}
-use Rattle.std.proofs.lemmas.Bool.{or_parts, true≢false, leb-true, not-false}
+use Rattle.std.proofs.lemmas.Bool.{or_parts, and_parts, true≢false, leb-true, not-false}
 use Rattle.std.proofs.lemmas.Option.{slice_get-get_or}
-use Rattle.dia_defs.specs.declared.kind.Kind.{Kind}
-use Rattle.dia_defs.specs.declared.kind.Kind.TheVariants.{Int, Text}
-use Rattle.dia_defs.specs.declared.cause.Cause.{Cause}
-use Rattle.dia_defs.specs.declared.cause.Cause.TheVariants.{BadForm, UnknownWord, BadNumber}
-use Rattle.dia_defs.specs.declared.word.Word.{Word}
-use Rattle.dia_defs.specs.declared.word.Word.TheVariants.{Map}
-use Rattle.dia_defs.specs.Texts.{number_spelled, number_or_0}
-use Rattle.dia_defs.specs.Values.{Expr, is_int, is_text, expr_kind}
-use Rattle.dia_defs.specs.Expressions as spelling
-use Rattle.dia_defs.specs.Expressions.{Beginning, beginning_of, whole, with_one, with_two, with_three, onto, exprs_of, begins_none, list_fault, number_fault}
-use Rattle.dia_defs.specs.Forms.{fits_count, exprs_without, value_in, first_expr, exprs_in}
-use Rattle.dia_defs.specs.Reading.{Known, Sentence, Test, first_cause, word_tests, is_printable, is_bad_form, is_unknown_word, is_bad_number, has_bad_name, has_bad_count, fault_in, is_outside, is_number_outside, is_kind, is_other_kind, is_one_int}
+use Rattle.row_defs.specs.declared.kind.Kind.{Kind}
+use Rattle.row_defs.specs.declared.kind.Kind.TheVariants.{Int, Text}
+use Rattle.row_defs.specs.declared.cause.Cause.{Cause}
+use Rattle.row_defs.specs.declared.cause.Cause.TheVariants.{BadForm, UnknownWord, BadNumber}
+use Rattle.row_defs.specs.Texts.{number_spelled, number_or_0}
+use Rattle.row_defs.specs.Values.{Expr, is_int, is_text, expr_kind}
+use Rattle.row_defs.specs.Expressions as spelling
+use Rattle.row_defs.specs.Expressions.{Beginning, beginning_of, whole, with_one, with_two, with_three, onto, exprs_of, begins_none, list_fault, number_fault}
+use Rattle.script_defs.specs.declared.shape.Shape.{Shape}
+use Rattle.script_defs.specs.declared.shape.NumberPlace.{NumberPlace}
+use Rattle.script_defs.specs.declared.shape.ColumnPlace.{ColumnPlace}
+use Rattle.script_defs.specs.Stating.{first_expr}
+use Rattle.script_defs.specs.Reading.{Known, Sentence, Test, first_cause, tests_of, exprs_without, value_in, exprs_fault, is_printable, is_bad_form, is_unknown_word, is_bad_number, has_bad_name, has_bad_bytes, has_bad_words, fits_count, is_outside, is_number_outside, is_kind, is_other_kind, is_one_int}
 use Rattle.script_read.specs.Accepting.{IsAccepted}
 
 abbrev none_apply : List Test → Type 0
@@ -29,39 +30,26 @@ no_test (test ∷ tests) is =
       | false ↦ λ e. (refl, no_test tests e)
     ] is
 
-four_parts : (a b c d : Bool) → (a || b || c || d) ≡ false → (a ≡ false) × (b ≡ false) × (c ≡ false) × (d ≡ false)
-four_parts true b c d is = let wrong : ⊥ = cc in absurd wrong
-four_parts false true c d is = let wrong : ⊥ = cc in absurd wrong
-four_parts false false true d is = let wrong : ⊥ = cc in absurd wrong
-four_parts false false false true is = let wrong : ⊥ = cc in absurd wrong
-four_parts false false false false is = (refl, refl, refl, refl)
-
-pub accepted : (known : Known) (bytes : List ℕ) (s : Sentence) (word : Word) → first_cause (word_tests known bytes s (Some word)) ≡ None
-    → IsAccepted known word s.args × (list_all is_printable bytes ≡ true)
-accepted known bytes s word is =
-    let names = no_test (word_tests known bytes s (Some word)) is in
+pub accepted : (known : Known) (bytes : List ℕ) (s : Sentence) (shape : Shape) → first_cause (tests_of known bytes s shape) ≡ None
+    → IsAccepted known shape s.args × (list_all is_printable bytes ≡ true)
+accepted known bytes s shape is =
+    let names = no_test (tests_of known bytes s shape) is in
     let words = names.1.1.1 in
     let columns = words.1.1 in
-    let form = four_parts (not (list_all is_printable bytes)) (has_bad_name s.defines s.word) (has_bad_count (Some word) s.args)
-    (is_bad_form (fault_in (Some word) s.args)) names.0 in (
+    let form = or_parts (has_bad_bytes bytes s) (has_bad_words shape s.args) names.0 in
+    let whole_line = or_parts (not (list_all is_printable bytes)) (has_bad_name s.defines s.word) form.0 in
+    let behind = or_parts (not (fits_count shape s.args)) (is_bad_form (exprs_fault shape.exprs s.args)) form.1 in (
       record {
-        count = not-false (fits_count word s.args) form.2;
-        spelled = form.3;
+        count = not-false (fits_count shape s.args) behind.0;
+        spelled = behind.1;
         operands = names.1.0;
         words = words.0;
         numbers = words.1.0;
         columns = columns.0;
         kinds = columns.1.0;
-        few = columns.1.1.0;
       },
-      not-false (list_all is_printable bytes) form.0,
+      not-false (list_all is_printable bytes) whole_line.0,
     )
-
-pub accepted_as : (known : Known) (bytes : List ℕ) (s : Sentence) (w word : Word) (cause : Option Cause) → w ≡ word
-    → cause ≡ first_cause (word_tests known bytes s (Some w)) → cause ≡ None → IsAccepted known word s.args
-accepted_as known bytes s w word cause same is none =
-    let Is : Word → Type 0 = λ v. first_cause (word_tests known bytes s (Some v)) ≡ None in
-    (accepted known bytes s word (subst Is same (sym is ∙ none))).0
 
 -- expressions ----------------------------------------------------------------------------------------------------
 
@@ -117,12 +105,12 @@ by_list words false some form known numbers = by_form words (is_none (exprs_of w
 length-drop_one : (args : List (List ℕ)) → 2 ≤ length args → 0 < length (drop 1 args)
 length-drop_one args two = let rest = length-drop 1 args in omega arith
 
--- a map has an expression
-pub some_exprs : (known : Known) (args : List (List ℕ)) → IsAccepted known Map args → 0 < length (exprs_in Map args)
-some_exprs known args h =
-    let words = or_parts false (is_unknown_word (list_fault (drop 1 args))) h.words in
-    let numbers = or_parts false (is_bad_number (list_fault (drop 1 args))) h.numbers in
-    by_list (drop 1 args) (list_any begins_none (drop 1 args)) (length-drop_one args (leb-true 2 (length args) h.count)) h.spelled words.1 numbers.1
+-- a list of expressions has one, where there are words
+pub some_exprs : (args : List (List ℕ)) → 2 ≤ length args → is_bad_form (list_fault (drop 1 args)) ≡ false
+    → is_unknown_word (list_fault (drop 1 args)) ≡ false → is_bad_number (list_fault (drop 1 args)) ≡ false
+    → 0 < length (exprs_without (list_fault (drop 1 args)) (drop 1 args))
+some_exprs args two form words numbers =
+    by_list (drop 1 args) (list_any begins_none (drop 1 args)) (length-drop_one args two) form words numbers
 
 int_kind : (kind : Option Kind) → is_int kind ≡ true → kind ≡ Some Int
 int_kind None is = absurd (true≢false (sym is))
@@ -148,16 +136,19 @@ one_int kinds (e ∷ x ∷ exprs) is = absurd (true≢false (sym is))
 pub there_at : (args : List (List ℕ)) (n : ℕ) → n < length args → IsSome (slice_get args n)
 there_at args n within = rw (slice_get-get_or args n [] within) refl
 
-pub column_kind_is : (kind : Kind) (kinds : List Kind) (w : Option (List ℕ)) → IsSome w → is_other_kind kind kinds w ≡ false
-    → slice_get kinds (value_in w) ≡ Some kind
-column_kind_is kind kinds None some is = absurd (true≢false (sym some))
-column_kind_is kind kinds (Some w) some is =
-    this_kind kind (slice_get kinds (number_or_0 w)) (not-false (is_kind kind (slice_get kinds (number_or_0 w))) is)
+pub column_kind_is : (place : ColumnPlace) (kinds : List Kind) (w : Option (List ℕ)) → IsSome w → is_other_kind (Some place) kinds w ≡ false
+    → slice_get kinds (value_in w) ≡ Some place.kind
+column_kind_is place kinds None some is = absurd (true≢false (sym some))
+column_kind_is place kinds (Some w) some is =
+    this_kind place.kind (slice_get kinds (number_or_0 w)) (not-false (is_kind place.kind (slice_get kinds (number_or_0 w))) is)
 
-in_range : (range : ℕ → Bool) (o : Option ℕ) → is_number_outside range o ≡ false → range (unwrap_or o 0) ≡ true
-in_range range None is = absurd (true≢false is)
-in_range range (Some n) is = not-false (range n) is
+in_range : (least most : ℕ) (o : Option ℕ) → is_number_outside least most o ≡ false → (least ≤ unwrap_or o 0) × (unwrap_or o 0 ≤ most)
+in_range least most None is = absurd (true≢false is)
+in_range least most (Some n) is =
+    let parts = and_parts (leb least n) (leb n most) (not-false _ is) in
+    (leb-true least n parts.0, leb-true n most parts.1)
 
-pub value_in_range : (range : ℕ → Bool) (w : Option (List ℕ)) → IsSome w → is_outside range w ≡ false → range (value_in w) ≡ true
-value_in_range range None some is = absurd (true≢false (sym some))
-value_in_range range (Some w) some is = in_range range (number_spelled w) is
+pub value_in_range : (place : NumberPlace) (w : Option (List ℕ)) → IsSome w → is_outside (Some place) w ≡ false
+    → (place.least ≤ value_in w) × (value_in w ≤ place.most)
+value_in_range place None some is = absurd (true≢false (sym some))
+value_in_range place (Some w) some is = in_range place.least place.most (number_spelled w) is

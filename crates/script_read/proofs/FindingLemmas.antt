@@ -2,10 +2,10 @@
 use Rattle.std.proofs.Common.{◌≡◌, ℕ, ◌+◌, ◌≤◌, Bool, true, false, cond, eqb, List, [], ◌∷◌, ◌++◌, Option, None, Some, find, refl, sym, ◌∙◌, subst, arith}
 use Rattle.std.proofs.lemmas.Bool.{eq-eqb, ne_eqb}
 use Rattle.std.specs.Str.{bytes_eq}
-use Rattle.dia_defs.specs.declared.kind.Kind.{Kind}
-use Rattle.dia_defs.specs.Scripts.{Statement, line, act}
-use Rattle.dia_defs.specs.Reading.{Earlier, Known, nothing_known, earlier_named, known_after}
-use Rattle.dia_defs.specs.Sound.{earlier_numbered}
+use Rattle.row_defs.specs.declared.kind.Kind.{Kind}
+use Rattle.script_defs.specs.Scripts.{Statement, line, act}
+use Rattle.script_defs.specs.Reading.{Earlier, Known, nothing_known, earlier_named, known_after}
+use Rattle.script_defs.specs.Sound.{earlier_numbered}
 
 -- finding in a longer list -----------------------------------------------------------------------------------
 

@@ -1,4 +1,5 @@
 pub mod Printables
+pub mod PlaceLemmas
 pub mod Counting
 pub mod Numerals
 pub mod LineLemmas

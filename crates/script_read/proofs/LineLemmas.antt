@@ -1,11 +1,11 @@
 -- What a line reads as that is neither too long nor skipped.
 use Rattle.std.proofs.Common.{◌≡◌, ℕ, ◌+◌, ◌≤◌, List, [], ◌∷◌, ◌++◌, length, false, refl, ap, sym, ◌∙◌, arith, append_assoc, append-nil, Result, Ok, Err}
 use Rattle.std.proofs.lemmas.Bool.{le-ltb}
-use Rattle.dia_defs.specs.Pieces.{pieces_from, line_feed, words_of}
-use Rattle.dia_defs.specs.declared.cause.Cause.{Cause}
-use Rattle.dia_defs.specs.declared.kind.Kind.{Kind}
-use Rattle.dia_defs.specs.Scripts.{Statement, Script}
-use Rattle.dia_defs.specs.Reading.{Known, is_skipped_words, sentence_of, reading_of_parts, line_reading, stated, known_after, onto_script, reading_from}
+use Rattle.row_defs.specs.Pieces.{pieces_from, line_feed, words_of}
+use Rattle.row_defs.specs.declared.cause.Cause.{Cause}
+use Rattle.row_defs.specs.declared.kind.Kind.{Kind}
+use Rattle.script_defs.specs.Scripts.{Statement, Script}
+use Rattle.script_defs.specs.Reading.{Known, is_skipped_words, sentence_of, reading_of_parts, line_reading, stated, known_after, onto_script, reading_from}
 use Rattle.script_read.specs.Answering.{after_all}
 
 pub line_reading-parts : (known : Known) (bytes : List ℕ) → length bytes ≤ 512 → is_skipped_words (words_of bytes) ≡ false

@@ -7,7 +7,7 @@ use Rattle.std.specs.Str.Parse.{ParsesUnsigned}
 use Rattle.std.proofs.lemmas.Bool.{and_parts, leb-true, le-leb, lt-ltb, ltb-true}
 use Rattle.std.proofs.lemmas.Str.Ascii.{IsAscii-nil, IsAscii-cons}
 use Rattle.std.proofs.lemmas.Str.Parse.{IsNumeralModel, numerals_by_fold, parse_digits}
-use Rattle.dia_defs.specs.Texts.{is_decimal, number_after, number_of_digits, number_spelled}
+use Rattle.row_defs.specs.Texts.{is_decimal, number_after, number_of_digits, number_spelled}
 
 pub IsAscii-digits : (word : List ℕ) → list_all is_decimal word ≡ true → IsAscii word
 IsAscii-digits [] all = IsAscii-nil

@@ -2,12 +2,12 @@
 use Rattle.std.proofs.Common.{◌≡◌, ℕ, Bool, true, false, List, [], ◌∷◌, ◌++◌, filter, cond, eqb, refl, arith, leb}
 use Rattle.std.specs.List.{list_all}
 use Rattle.std.specs.Str.{IsAscii, bytes_eq}
-use Rattle.std.specs.Prelude.{codes, None}
+use Rattle.std.specs.Prelude.{codes, Option, None, Some, unwrap_or, slice_get}
 use Rattle.script_read.specs.Accepting.{AreTexts}
 use Rattle.std.proofs.lemmas.Bool.{and_parts, and_from, leb-true}
 use Rattle.std.proofs.lemmas.Str.Ascii.{IsAscii-nil, IsAscii-cons}
-use Rattle.dia_defs.specs.Pieces.{pieces_from, last_piece, words_of, is_some_bytes, space}
-use Rattle.dia_defs.specs.Reading.{is_printable, sentence_of, defining}
+use Rattle.row_defs.specs.Pieces.{pieces_from, last_piece, words_of, is_some_bytes, space}
+use Rattle.script_defs.specs.Reading.{is_printable, sentence_of, defining}
 
 -- every word passes
 abbrev pub all_pass : (ℕ → Bool) → List (List ℕ) → Bool
@@ -73,3 +73,16 @@ sentence_texts (v ∷ w ∷ words) a =
       | true ↦ defining_texts v words first.0 second.1
       | false ↦ first.1
     ]
+
+-- a word in its place, or none
+pub first_printable : (args : List (List ℕ)) → all_pass is_printable args ≡ true → list_all is_printable (unwrap_or (slice_get args 0) []) ≡ true
+first_printable [] a = refl
+first_printable (w ∷ args) a = (and_parts (list_all is_printable w) (all_pass is_printable args) a).0
+
+pub name_printable : (name : Option (List ℕ)) (args : List (List ℕ)) → AreTexts name args → list_all is_printable (unwrap_or name []) ≡ true
+name_printable None args a = refl
+name_printable (Some name) args a = a.0
+
+pub args_printable : (name : Option (List ℕ)) (args : List (List ℕ)) → AreTexts name args → all_pass is_printable args ≡ true
+args_printable None args a = a
+args_printable (Some name) args a = a.1

@@ -1,30 +1,54 @@
 -- An accepted script is sound.
 use Rattle.std.proofs.Common.{◌≡◌, ℕ, ◌+◌, ◌≤◌, true, false, cond, ltb, List, [], ◌∷◌, length, Option, None, Some, Result, Ok, Err, refl, subst, arith}
-use Rattle.dia_defs.specs.declared.kind.Kind.{Kind}
-use Rattle.dia_defs.specs.declared.cause.Cause.{Cause}
-use Rattle.dia_defs.specs.declared.cause.Cause.TheVariants.{LineLong}
-use Rattle.dia_defs.specs.declared.word.Word.{Word}
-use Rattle.dia_defs.specs.Pieces.{words_of, lines_of}
-use Rattle.dia_defs.specs.Scripts.{Statement, Script}
-use Rattle.dia_defs.specs.Reading.{Known, nothing_known, Sentence, sentence_of, word_in, LineReading, skipped, refused, stated, line_reading, reading_of_parts, reading_of_sentence, first_cause, word_tests, statement_in, kinds_of_line, is_skipped_words, line_limit, known_after, onto_script, reading_from}
-use Rattle.dia_defs.specs.Sound.{IsSound}
+use Rattle.std.proofs.lemmas.Bool.{ltb-false}
+use Rattle.row_defs.specs.declared.kind.Kind.{Kind}
+use Rattle.row_defs.specs.declared.cause.Cause.{Cause}
+use Rattle.row_defs.specs.declared.cause.Cause.TheVariants.{LineLong, TooManyColumns}
+use Rattle.script_defs.specs.declared.word.Word.{Word}
+use Rattle.row_defs.specs.Pieces.{words_of, lines_of}
+use Rattle.script_defs.specs.Scripts.{Statement, Script}
+use Rattle.script_defs.specs.Reading.{Known, nothing_known, Sentence, sentence_of, word_in, LineReading, skipped, refused, stated, line_reading, reading_of_parts, reading_of_word, reading_without, unknown_cause, within_columns, first_cause, tests_of, tests_of_unknown, shape_in, statement_in, kinds_of_line, is_skipped_words, known_after, onto_script, reading_from}
+use Rattle.script_defs.specs.Limits.{line_limit}
+use Rattle.row_defs.specs.Limits.{most_columns}
+use Rattle.script_defs.specs.Sound.{IsSound}
 use Rattle.script_read.proofs.FindingLemmas.{IsNumbered, numbered_nothing, numbered_line}
 use Rattle.script_read.proofs.AcceptedLemmas.{accepted}
-use Rattle.script_read.proofs.WordLemmas.{IsSoundStated, word_sound}
+use Rattle.script_read.proofs.WordLemmas.{IsSoundStated, word_told}
 
 -- a line without a cause -------------------------------------------------------------------------------------
 
-stated_sound : (known : Known) (n : ℕ) (bytes : List ℕ) (p : Sentence) (s : Statement) (kinds : List Kind) (w : Option Word) (f : Option Cause) → IsNumbered known n
-    → first_cause (word_tests known bytes p w) ≡ f → reading_of_sentence known p w f ≡ stated s kinds → IsSoundStated known s kinds
-stated_sound known n bytes p s kinds w (Some cause) numbered is e = let wrong : ⊥ = cc in absurd wrong
-stated_sound known n bytes p s kinds None None numbered is e = let wrong : ⊥ = cc in absurd wrong
-stated_sound known n bytes p s kinds (Some word) None numbered is e =
-    let sound = word_sound known n p.defines word p.args numbered (accepted known bytes p word is).0 in
-    let same : statement_in known p.defines word p.args ≡ s = cc in
-    let kinds_same : kinds_of_line known word p.args ≡ kinds = cc in
-    let As : Statement → Type 0 = λ t. IsSoundStated known t (kinds_of_line known word p.args) in
-    let Of : List Kind → Type 0 = λ ks. IsSoundStated known s ks in
-    subst Of kinds_same (subst As same sound)
+stated_same : (s x : Statement) (kinds ys : List Kind) → stated s kinds ≡ stated x ys → (s ≡ x) × (kinds ≡ ys)
+stated_same s x kinds ys e = (cc, cc)
+
+-- a line whose rows haven't too many columns
+within_sound : (known : Known) (t s : Statement) (ks kinds : List Kind) → (length ks ≤ most_columns → IsSoundStated known t ks)
+    → within_columns t ks ≡ stated s kinds → IsSoundStated known s kinds
+within_sound known t s ks kinds sound is =
+    elim (ltb most_columns (length ks)) as (λ b. ltb most_columns (length ks) ≡ b → cond b (refused TooManyColumns) (stated t ks) ≡ stated s kinds → IsSoundStated known s kinds) [
+      | true ↦ λ many e. let wrong : ⊥ = cc in absurd wrong
+      | false ↦ λ few e.
+          let same = stated_same t s ks kinds e in
+          let As : Statement → Type 0 = λ x. IsSoundStated known x ks in
+          let Of : List Kind → Type 0 = λ ys. IsSoundStated known s ys in
+          subst Of same.1 (subst As same.0 (sound (ltb-false most_columns (length ks) few)))
+    ] refl is
+
+word_sound : (known : Known) (n : ℕ) (bytes : List ℕ) (p : Sentence) (s : Statement) (kinds : List Kind) (word : Word) (f : Option Cause) → IsNumbered known n
+    → first_cause (tests_of known bytes p (shape_in word p.args)) ≡ f → reading_without known p word f ≡ stated s kinds → IsSoundStated known s kinds
+word_sound known n bytes p s kinds word (Some cause) numbered is e = let wrong : ⊥ = cc in absurd wrong
+word_sound known n bytes p s kinds word None numbered is e =
+    let told = word_told known p.defines word p.args (accepted known bytes p (shape_in word p.args) is).0 in
+    within_sound known (statement_in known p.defines word p.args) s (kinds_of_line known p.defines word p.args) kinds (told.stated n numbered) e
+
+unknown_unstated : (f : Option Cause) (s : Statement) (kinds : List Kind) → unknown_cause f ≡ stated s kinds → ⊥
+unknown_unstated None s kinds e = cc
+unknown_unstated (Some cause) s kinds e = cc
+
+stated_sound : (known : Known) (n : ℕ) (bytes : List ℕ) (p : Sentence) (s : Statement) (kinds : List Kind) (w : Option Word) → IsNumbered known n
+    → reading_of_word known bytes p w ≡ stated s kinds → IsSoundStated known s kinds
+stated_sound known n bytes p s kinds None numbered e = absurd (unknown_unstated (first_cause (tests_of_unknown known bytes p)) s kinds e)
+stated_sound known n bytes p s kinds (Some word) numbered e =
+    word_sound known n bytes p s kinds word (first_cause (tests_of known bytes p (shape_in word p.args))) numbered refl e
 
 line_parts : (known : Known) (bytes : List ℕ) (s : Statement) (kinds : List Kind) → line_reading known bytes ≡ stated s kinds
     → reading_of_parts known bytes (sentence_of (words_of bytes)) ≡ stated s kinds
@@ -46,8 +70,7 @@ line_sound : (known : Known) (n : ℕ) (bytes : List ℕ) (s : Statement) (kinds
     → IsSoundStated known s kinds
 line_sound known n bytes s kinds numbered is =
     let p = sentence_of (words_of bytes) in
-    let w = word_in p.defines p.word in
-    stated_sound known n bytes p s kinds w (first_cause (word_tests known bytes p w)) numbered refl (line_parts known bytes s kinds is)
+    stated_sound known n bytes p s kinds (word_in p.defines p.word) numbered (line_parts known bytes s kinds is)
 
 -- scripts --------------------------------------------------------------------------------------------------------
 

@@ -1,7 +1,7 @@
 -- What the reader answers, beside what the lines read as.
 use Rattle.std.specs.Prelude.{◌≡◌, ℕ, ◌++◌, Result, Ok, Err}
-use Rattle.dia_defs.specs.Scripts.{Script}
-use Rattle.dia_defs.specs.declared.cause.Cause.{Cause}
+use Rattle.script_defs.specs.Scripts.{Script}
+use Rattle.row_defs.specs.declared.cause.Cause.{Cause}
 use Rattle.script_read.specs.declared.reader.ReadErr as errors
 use Rattle.script_read.specs.declared.reader.ReadErr.TheVariants.{Bad, NoMemory}
 

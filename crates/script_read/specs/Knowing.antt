@@ -2,8 +2,9 @@
 use Rattle.std.specs.Prelude.{ℕ, Bool, List, map, Option, find}
 use Rattle.std.specs.Borrow.{Bor}
 use Rattle.std.specs.Str.{bytes_eq}
-use Rattle.dia_defs.specs.declared.kind.Kind.{Kind}
-use Rattle.dia_defs.specs.Reading.{Earlier, Known}
+use Rattle.row_defs.specs.declared.kind.Kind.{Kind}
+use Rattle.script_defs.specs.Reading.{Earlier, Known}
+use Rattle.dia_item.specs.declared.kinds.Kinds as kinds
 use Rattle.dia_item.specs.KindList.{kind_list}
 use Rattle.script_read.specs.declared.known.Earlier as earliers
 use Rattle.script_read.specs.declared.known.Known as knowns
@@ -13,6 +14,9 @@ earlier_in e = record { number = e.number; name = e.name; kinds = kind_list e.ki
 
 abbrev pub earlier_at : Bor earliers.Earlier → Earlier
 earlier_at e = earlier_in e.now
+
+abbrev pub kinds_at : Bor kinds.Kinds → List Kind
+kinds_at k = kind_list k.now
 
 abbrev pub kind_at : Bor Kind → Kind
 kind_at k = k.now

@@ -2,7 +2,7 @@
 use Rattle.std.specs.Prelude.{ℕ, List, map}
 use Rattle.std.specs.Borrow.{Bor}
 use Rattle.std.specs.Option.{option_map}
-use Rattle.dia_defs.specs.Reading.{Sentence}
+use Rattle.script_defs.specs.Reading.{Sentence}
 use Rattle.script_read.specs.declared.sentence.Sentence as code
 
 abbrev pub bytes_in : Bor (List ℕ) → List ℕ

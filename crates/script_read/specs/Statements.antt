@@ -1,6 +1,7 @@
 -- The statements of the definitions that the code's statements stand for.
 use Rattle.std.specs.Prelude.{map}
-use Rattle.dia_defs.specs.Scripts.{map_op, filter_op, words_op, spread_op, Form, lines_form, generate_form, local_form, Action, print_action, size_action, sum_action, Statement, line, act, Numbered}
+use Rattle.row_defs.specs.LocalOps.{map_op, filter_op, words_op, spread_op}
+use Rattle.script_defs.specs.Scripts.{Form, lines_form, generate_form, local_form, Action, print_action, size_action, sum_action, Statement, line, act, Numbered}
 use Rattle.dia_expr.specs.Exprs.{expr_in}
 use Rattle.script_read.specs.declared.statement.Form as forms
 use Rattle.script_read.specs.declared.statement.Form.TheVariants.{Lines, Generate, Map, Filter, Words, Spread}

@@ -2,25 +2,23 @@
 ghost use Rattle.std.specs.Prelude.{◌≡◌, true, None, Some, is_none, length, map, slice_get, codes, nat_lt, ◌||◌, not};
 ghost use Rattle.std.specs.List.{list_all, list_any};
 ghost use Rattle.std.specs.Option.{option_map};
-ghost use Rattle.dia_defs.specs.Values.{expr_kind, lacks_column};
-ghost use Rattle.dia_defs.specs.Forms.{is_in_range, number_word, column_word, column_kind, exprs_in};
-ghost use Rattle.dia_defs.specs.Reading.{fault_in, is_printable, is_bad_form, is_unknown_word, is_bad_number, has_bad_name, has_bad_count, has_bad_form, has_unknown_name, has_taken_name, has_unknown_selector, has_unknown_word, is_outside, has_bad_number, is_no_column, lack_columns, has_bad_column_on, has_bad_column, is_kind, is_other_kind, is_one_int, have_no_kinds, has_bad_kind_on, has_bad_kind, has_too_many_columns, first_cause, word_tests, earlier_named};
+ghost use Rattle.row_defs.specs.Values.{expr_kind, lacks_column};
+ghost use Rattle.script_defs.specs.Reading.{number_word, column_word, exprs_in, exprs_fault, is_printable, is_bad_form, is_unknown_word, is_bad_number, has_bad_name, has_bad_bytes, fits_count, has_bad_words, has_unknown_name, has_taken_name, has_unknown_word, is_outside, is_no_number, has_bad_number, is_no_column, lack_columns, has_bad_column, is_kind, is_other_kind, is_one_int, have_no_kinds, has_bad_kind, first_cause, tests_of, tests_of_unknown, earlier_named, operands_in, operand_kinds};
 ghost use Rattle.dia_expr.specs.Exprs.{expr_in};
 ghost use Rattle.dia_item.specs.KindList.{kind_list};
-ghost use Rattle.script_read.specs.Knowing.{known_in, earlier_at, kind_at};
+ghost use Rattle.script_read.specs.Knowing.{known_in, earlier_at, kind_at, kinds_at};
 ghost use Rattle.script_read.specs.Sentences.{sentence_in, words_in, bytes_in};
 
 use crate::exprs::Exprs;
-use crate::forms::{
-    column_kind, column_word, fits_count, is_in_range, number_word, operand_words, selector_of,
-};
 use crate::known::{Earlier, Known};
 use crate::names::{is_name, is_printable};
 use crate::numbers::{number_spelled, value_in};
+use crate::places::{column_word, number_word, operand_words};
 use crate::sentence::Sentence;
-use dia_defs::{Cause, Kind, Word};
 use dia_expr::{Expr, KindErr, kind_of};
 use dia_item::Kinds;
+use row_defs::{Cause, Kind};
+use script_defs::{ColumnPlace, ExprPlace, NumberPlace, Shape};
 
 fn has_bad_name(s: &Sentence<'_, '_>) -> bool
     ensures { result ≡ has_bad_name (sentence_in s.now).defines (sentence_in s.now).word }
@@ -31,15 +29,30 @@ fn has_bad_name(s: &Sentence<'_, '_>) -> bool
     }
 }
 
-/// Whether a line that isn't too long is neither a statement nor an action by its form.
-fn has_bad_form(line: &[u8], s: &Sentence<'_, '_>, word: Word, exprs: &Exprs) -> bool
-    requires { exprs.now.fault ≡ fault_in (Some word) (sentence_in s.now).args }
-    ensures { result ≡ has_bad_form line.now (sentence_in s.now) (Some word) }
+/// Whether the line has a byte that none may have, or a name that is none.
+fn has_bad_bytes(line: &[u8], s: &Sentence<'_, '_>) -> bool
+    ensures { result ≡ has_bad_bytes line.now (sentence_in s.now) }
 {
-    !is_printable(line)
-        || has_bad_name(s)
-        || !fits_count(word, s.args)
-        || matches!(exprs.fault, Some(Cause::BadForm))
+    !is_printable(line) || has_bad_name(s)
+}
+
+fn fits_count(shape: &Shape, args: &[&[u8]]) -> bool
+    ensures { result ≡ fits_count shape.now (words_in args.now) }
+{
+    let count = args.len();
+    shape.least <= count
+        && match shape.most {
+            None => true,
+            Some(most) => count <= most,
+        }
+}
+
+/// Whether the words behind the word don't fit it: there are too few or too many, or they end inside an expression.
+fn has_bad_words(shape: &Shape, args: &[&[u8]], exprs: &Exprs) -> bool
+    requires { exprs.now.fault ≡ exprs_fault shape.now.exprs (words_in args.now) }
+    ensures { result ≡ has_bad_words shape.now (words_in args.now) }
+{
+    !fits_count(shape, args) || matches!(exprs.fault, Some(Cause::BadForm))
 }
 
 fn is_any_unknown(known: &Known, names: &[&[u8]]) -> bool
@@ -53,10 +66,10 @@ fn is_any_unknown(known: &Known, names: &[&[u8]]) -> bool
     false
 }
 
-fn has_unknown_name(known: &Known, word: Word, args: &[&[u8]]) -> bool
-    ensures { result ≡ has_unknown_name (known_in known.now) (Some word) (words_in args.now) }
+fn has_unknown_name(known: &Known, shape: &Shape, args: &[&[u8]]) -> bool
+    ensures { result ≡ has_unknown_name (known_in known.now) shape.now (words_in args.now) }
 {
-    is_any_unknown(known, operand_words(word, args))
+    is_any_unknown(known, operand_words(shape, args))
 }
 
 fn has_taken_name(known: &Known, s: &Sentence<'_, '_>) -> bool
@@ -68,51 +81,42 @@ fn has_taken_name(known: &Known, s: &Sentence<'_, '_>) -> bool
     }
 }
 
-fn has_unknown_selector(word: Word, args: &[&[u8]]) -> bool
-    ensures { result ≡ has_unknown_selector word (words_in args.now) }
+fn has_unknown_word(shape: &Shape, args: &[&[u8]], exprs: &Exprs) -> bool
+    requires { exprs.now.fault ≡ exprs_fault shape.now.exprs (words_in args.now) }
+    ensures { result ≡ has_unknown_word shape.now (words_in args.now) }
 {
-    match word {
-        Word::FlatMap => selector_of(args).is_none(),
+    !shape.is_selected || matches!(exprs.fault, Some(Cause::UnknownWord))
+}
+
+/// Whether the word in a number's place spells none, or one outside its range.
+fn is_outside(number: Option<NumberPlace>, args: &[&[u8]]) -> bool
+    ensures { result ≡ is_outside number (number_word number (words_in args.now)) }
+{
+    match (number, number_word(number, args)) {
+        (Some(range), Some(numeral)) => match number_spelled(numeral) {
+            None => true,
+            Some(n) => !(range.least <= n && n <= range.most),
+        },
         _ => false,
     }
 }
 
-fn has_unknown_word(word: Word, args: &[&[u8]], exprs: &Exprs) -> bool
-    requires { exprs.now.fault ≡ fault_in (Some word) (words_in args.now) }
-    ensures { result ≡ has_unknown_word (Some word) (words_in args.now) }
-{
-    has_unknown_selector(word, args) || matches!(exprs.fault, Some(Cause::UnknownWord))
-}
-
-/// Whether the word in a number's place spells none, or one outside its range.
-fn is_number_outside(word: Word, args: &[&[u8]]) -> bool
-    ensures { result ≡ is_outside (is_in_range word) (number_word word (words_in args.now)) }
-{
-    match number_word(word, args) {
-        None => false,
-        Some(numeral) => match number_spelled(numeral) {
-            None => true,
-            Some(n) => !is_in_range(word, n),
-        },
-    }
-}
-
 /// Whether the word in a column's place spells no number.
-fn is_column_outside(word: Word, args: &[&[u8]]) -> bool
-    ensures { result ≡ is_outside (λ n. true) (column_word word (words_in args.now)) }
+fn is_no_number(numeral: Option<&[u8]>) -> bool
+    ensures { result ≡ is_no_number (option_map bytes_in numeral.entry) }
 {
-    match column_word(word, args) {
+    match numeral {
         None => false,
         Some(numeral) => number_spelled(numeral).is_none(),
     }
 }
 
-fn has_bad_number(word: Word, args: &[&[u8]], exprs: &Exprs) -> bool
-    requires { exprs.now.fault ≡ fault_in (Some word) (words_in args.now) }
-    ensures { result ≡ has_bad_number (Some word) (words_in args.now) }
+fn has_bad_number(shape: &Shape, args: &[&[u8]], exprs: &Exprs) -> bool
+    requires { exprs.now.fault ≡ exprs_fault shape.now.exprs (words_in args.now) }
+    ensures { result ≡ has_bad_number shape.now (words_in args.now) }
 {
-    is_number_outside(word, args)
-        || is_column_outside(word, args)
+    is_outside(shape.number, args)
+        || is_no_number(column_word(shape.column, args))
         || matches!(exprs.fault, Some(Cause::BadNumber))
 }
 
@@ -143,15 +147,14 @@ fn lack_columns(kinds: &Kinds, exprs: &[Expr]) -> bool
     false
 }
 
-fn has_bad_column(operand: Option<&Earlier>, word: Word, args: &[&[u8]], exprs: &[Expr]) -> bool
-    requires { map expr_in exprs.now ≡ exprs_in word (words_in args.now) }
-    ensures { result ≡ has_bad_column_on (option_map earlier_at operand.entry) word (words_in args.now) }
+fn has_bad_column(kinds: Option<&Kinds>, shape: &Shape, args: &[&[u8]], exprs: &[Expr]) -> bool
+    requires { map expr_in exprs.now ≡ exprs_in shape.now.exprs (words_in args.now) }
+    ensures { result ≡ has_bad_column (option_map kinds_at kinds.entry) shape.now (words_in args.now) }
 {
-    match operand {
+    match kinds {
         None => false,
-        Some(operand) => {
-            is_no_column(&operand.kinds, column_word(word, args))
-                || lack_columns(&operand.kinds, exprs)
+        Some(kinds) => {
+            is_no_column(kinds, column_word(shape.column, args)) || lack_columns(kinds, exprs)
         }
     }
 }
@@ -165,13 +168,15 @@ fn is_kind(kind: Kind, of: Option<&Kind>) -> bool
     }
 }
 
-/// Whether the column isn't of this kind.
-fn is_other_kind(kind: Kind, kinds: &Kinds, column: Option<&[u8]>) -> bool
-    ensures { result ≡ is_other_kind kind (kind_list kinds.now) (option_map bytes_in column.entry) }
+/// Whether the column isn't of the kind that its place asks for.
+fn is_other_kind(place: Option<ColumnPlace>, kinds: &Kinds, column: Option<&[u8]>) -> bool
+    ensures { result ≡ is_other_kind place (kind_list kinds.now) (option_map bytes_in column.entry) }
 {
-    match column {
-        None => false,
-        Some(_) => !is_kind(kind, kinds.list().get(value_in(column) as usize)),
+    match (place, column) {
+        (Some(place), Some(_)) => {
+            !is_kind(place.kind, kinds.list().get(value_in(column) as usize))
+        }
+        _ => false,
     }
 }
 
@@ -201,62 +206,69 @@ fn is_one_int(kinds: &Kinds, exprs: &[Expr]) -> bool
     }
 }
 
-/// Whether the expressions haven't the kinds that the word asks for.
-fn have_no_kinds(word: Word, kinds: &Kinds, exprs: &[Expr]) -> bool
-    ensures { result ≡ have_no_kinds word (kind_list kinds.now) (map expr_in exprs.now) }
+/// Whether the expressions haven't the kinds that their place asks for.
+fn have_no_kinds(place: ExprPlace, kinds: &Kinds, exprs: &[Expr]) -> bool
+    ensures { result ≡ have_no_kinds place (kind_list kinds.now) (map expr_in exprs.now) }
 {
-    match word {
-        Word::Filter => !is_one_int(kinds, exprs),
-        _ => is_any_without_kind(kinds, exprs),
+    match place {
+        ExprPlace::Test(_) => !is_one_int(kinds, exprs),
+        ExprPlace::Nowhere | ExprPlace::List(_) => is_any_without_kind(kinds, exprs),
     }
 }
 
-fn has_bad_kind(operand: Option<&Earlier>, word: Word, args: &[&[u8]], exprs: &[Expr]) -> bool
-    requires { map expr_in exprs.now ≡ exprs_in word (words_in args.now) }
-    ensures { result ≡ has_bad_kind_on (option_map earlier_at operand.entry) word (words_in args.now) }
+fn has_bad_kind(kinds: Option<&Kinds>, shape: &Shape, args: &[&[u8]], exprs: &[Expr]) -> bool
+    requires { map expr_in exprs.now ≡ exprs_in shape.now.exprs (words_in args.now) }
+    ensures { result ≡ has_bad_kind (option_map kinds_at kinds.entry) shape.now (words_in args.now) }
 {
-    match operand {
+    match kinds {
         None => false,
-        Some(operand) => {
-            is_other_kind(
-                column_kind(word, args),
-                &operand.kinds,
-                column_word(word, args),
-            ) || have_no_kinds(word, &operand.kinds, exprs)
+        Some(kinds) => {
+            is_other_kind(shape.column, kinds, column_word(shape.column, args))
+                || have_no_kinds(shape.exprs, kinds, exprs)
         }
     }
 }
 
-/// The first cause that applies to a line whose word is known.
+/// The kinds of the first operand's rows.
+fn operand_kinds<'k>(operands: &[&'k Earlier]) -> Option<&'k Kinds>
+    ensures { option_map kinds_at result ≡ operand_kinds (map earlier_at operands.now) }
+{
+    match operands.first() {
+        None => None,
+        Some(operand) => Some(&operand.kinds),
+    }
+}
+
+/// The first cause that applies to a line whose word has this shape, but for the number of columns of its rows.
 pub(crate) fn cause_of(
     known: &Known,
     line: &[u8],
     s: &Sentence<'_, '_>,
-    word: Word,
+    shape: &Shape,
+    operands: &[&Earlier],
     exprs: &Exprs,
 ) -> Option<Cause>
-    requires fault { exprs.now.fault ≡ fault_in (Some word) (sentence_in s.now).args }
-    requires list { map expr_in exprs.now.list.items ≡ exprs_in word (sentence_in s.now).args }
-    ensures { result ≡ first_cause (word_tests (known_in known.now) line.now (sentence_in s.now) (Some word)) }
+    requires operands { map earlier_at operands.now ≡ operands_in (known_in known.now) shape.now (sentence_in s.now).args }
+    requires fault { exprs.now.fault ≡ exprs_fault shape.now.exprs (sentence_in s.now).args }
+    requires list { map expr_in exprs.now.list.items ≡ exprs_in shape.now.exprs (sentence_in s.now).args }
+    ensures { result ≡ first_cause (tests_of (known_in known.now) line.now (sentence_in s.now) shape.now) }
 {
-    let operand = known.operand(word, s.args);
+    let kinds = operand_kinds(operands);
     let list = exprs.list.as_slice();
-    if has_bad_form(line, s, word, exprs) {
+    if has_bad_bytes(line, s) || has_bad_words(shape, s.args, exprs) {
         Some(Cause::BadForm)
-    } else if has_unknown_name(known, word, s.args) {
+    } else if has_unknown_name(known, shape, s.args) {
         Some(Cause::UnknownName)
     } else if has_taken_name(known, s) {
         Some(Cause::NameTaken)
-    } else if has_unknown_word(word, s.args, exprs) {
+    } else if has_unknown_word(shape, s.args, exprs) {
         Some(Cause::UnknownWord)
-    } else if has_bad_number(word, s.args, exprs) {
+    } else if has_bad_number(shape, s.args, exprs) {
         Some(Cause::BadNumber)
-    } else if has_bad_column(operand, word, s.args, list) {
+    } else if has_bad_column(kinds, shape, s.args, list) {
         Some(Cause::BadColumn)
-    } else if has_bad_kind(operand, word, s.args, list) {
+    } else if has_bad_kind(kinds, shape, s.args, list) {
         Some(Cause::BadKind)
-    } else if list.len() > 6 {
-        Some(Cause::TooManyColumns)
     } else {
         None
     }
@@ -264,9 +276,9 @@ pub(crate) fn cause_of(
 
 /// The first cause that applies to a line whose word isn't known.
 pub(crate) fn cause_of_unknown(known: &Known, line: &[u8], s: &Sentence<'_, '_>) -> Cause
-    ensures { Some result ≡ first_cause (word_tests (known_in known.now) line.now (sentence_in s.now) None) }
+    ensures { Some result ≡ first_cause (tests_of_unknown (known_in known.now) line.now (sentence_in s.now)) }
 {
-    if !is_printable(line) || has_bad_name(s) {
+    if has_bad_bytes(line, s) {
         Cause::BadForm
     } else if has_taken_name(known, s) {
         Cause::NameTaken

@@ -1,15 +1,16 @@
 //! The expressions of a line.
-ghost use Rattle.std.specs.Prelude.{◌≡◌, None, Some, map, unwrap_or, [], IfOk, IfErr};
-ghost use Rattle.dia_defs.specs.Expressions.{exprs_of, one_fault};
-ghost use Rattle.dia_defs.specs.Forms.{expr_words, exprs_fault, exprs_in};
+ghost use Rattle.std.specs.Prelude.{◌≡◌, None, Some, map, [], IfOk, IfErr};
+ghost use Rattle.row_defs.specs.Expressions.{exprs_of, one_fault};
+ghost use Rattle.script_defs.specs.Reading.{expr_words, exprs_fault, exprs_in};
 ghost use Rattle.dia_expr.specs.Exprs.{expr_in};
 ghost use Rattle.dia_expr.specs.Reads.{IsFault};
 ghost use Rattle.script_read.specs.Sentences.{words_in};
 
-use crate::forms::expr_words;
-use dia_defs::{Cause, Word};
+use crate::places::expr_words;
 use dia_edge::NoMemory;
 use dia_expr::{Expr, ExprErr, read_one, read_words};
+use row_defs::Cause;
+use script_defs::ExprPlace;
 use std::alloc::Global;
 
 /// The expressions of a line; none, and the cause, where their words are refused.
@@ -42,26 +43,26 @@ fn read_single(alloc: Global, words: &[&[u8]]) -> Result<Vec<Expr>, ExprErr>
     Ok(exprs)
 }
 
-/// The expressions behind the statement or action word, read as it asks for them.
-#[tactic(auto, unfolding(dia_defs::specs::Expressions::exprs_of))]
-fn read_list(alloc: Global, word: Word, args: &[&[u8]]) -> Result<Vec<Expr>, ExprErr>
-    ensures exprs { IfOk result (λ exprs. exprs_of (expr_words word (words_in args.now)) ≡ Some (map expr_in exprs.items)) }
-    ensures ok { IfOk result (λ _. exprs_fault word (expr_words word (words_in args.now)) ≡ None) }
-    ensures err { IfErr result (λ why. IsFault why (exprs_fault word (expr_words word (words_in args.now)))) }
+/// The expressions in their place, read as it asks for them.
+#[tactic(auto, unfolding(row_defs::specs::Expressions::exprs_of))]
+fn read_list(alloc: Global, place: ExprPlace, args: &[&[u8]]) -> Result<Vec<Expr>, ExprErr>
+    ensures exprs { IfOk result (λ exprs. exprs_of (expr_words place (words_in args.now)) ≡ Some (map expr_in exprs.items)) }
+    ensures ok { IfOk result (λ _. exprs_fault place (words_in args.now) ≡ None) }
+    ensures err { IfErr result (λ why. IsFault why (exprs_fault place (words_in args.now))) }
 {
-    match word {
-        Word::Map => read_words(alloc, expr_words(word, args)),
-        Word::Filter => read_single(alloc, expr_words(word, args)),
-        _ => Ok(Vec::new(alloc)),
+    match place {
+        ExprPlace::Nowhere => Ok(Vec::new(alloc)),
+        ExprPlace::Test(_) => read_single(alloc, expr_words(place, args)),
+        ExprPlace::List(_) => read_words(alloc, expr_words(place, args)),
     }
 }
 
 /// The expressions behind the statement or action word.
-pub(crate) fn read_exprs(alloc: Global, word: Word, args: &[&[u8]]) -> Result<Exprs, NoMemory>
-    ensures list { IfOk result (λ exprs. map expr_in exprs.list.items ≡ exprs_in word (words_in args.now)) }
-    ensures fault { IfOk result (λ exprs. exprs.fault ≡ exprs_fault word (expr_words word (words_in args.now))) }
+pub(crate) fn read_exprs(alloc: Global, place: ExprPlace, args: &[&[u8]]) -> Result<Exprs, NoMemory>
+    ensures list { IfOk result (λ exprs. map expr_in exprs.list.items ≡ exprs_in place (words_in args.now)) }
+    ensures fault { IfOk result (λ exprs. exprs.fault ≡ exprs_fault place (words_in args.now)) }
 {
-    match read_list(alloc, word, args) {
+    match read_list(alloc, place, args) {
         Ok(list) => Ok(Exprs { list, fault: None }),
         Err(ExprErr::BadForm) => Ok(Exprs::refused(alloc, Cause::BadForm)),
         Err(ExprErr::UnknownWord) => Ok(Exprs::refused(alloc, Cause::UnknownWord)),

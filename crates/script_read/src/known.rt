@@ -1,14 +1,14 @@
 //! What is known before a line: the earlier lines.
-ghost use Rattle.std.specs.Prelude.{◌≡◌};
+ghost use Rattle.std.specs.Prelude.{◌≡◌, map, IfOk};
 ghost use Rattle.std.specs.Option.{option_map};
-ghost use Rattle.dia_defs.specs.Reading.{earlier_named, operand_in};
+ghost use Rattle.std.specs.List.{filter_map};
+ghost use Rattle.script_defs.specs.Reading.{earlier_named};
 ghost use Rattle.script_read.specs.Knowing.{known_in, earlier_at, named_in, named_among};
 ghost use Rattle.script_read.specs.Sentences.{words_in};
 
-use crate::forms::operand_words;
-use dia_defs::Word;
-use dia_edge::Name;
+use dia_edge::{Name, NoMemory};
 use dia_item::Kinds;
+use std::alloc::Global;
 
 /// An earlier line.
 #[derive(Drop)]
@@ -49,10 +49,16 @@ impl Known {
         find_named(self.lines.as_slice(), word)
     }
 
-    /// The line that the first operand names.
-    pub(crate) fn operand(&self, word: Word, args: &[&[u8]]) -> Option<&Earlier>
-        ensures { option_map earlier_at result ≡ operand_in (known_in self.now) word (words_in args.now) }
+    /// The earlier lines that these words name.
+    pub(crate) fn operands(&self, alloc: Global, names: &[&[u8]]) -> Result<Vec<&Earlier>, NoMemory>
+        ensures { IfOk result (λ lines. map earlier_at lines.items ≡ filter_map (earlier_named (known_in self.now)) (words_in names.now)) }
     {
-        self.named(operand_words(word, args).first()?)
+        let mut lines = Vec::new(alloc);
+        for name in names {
+            if let Some(line) = self.named(name) {
+                lines.push(line)?;
+            }
+        }
+        Ok(lines)
     }
 }

@@ -7,11 +7,12 @@
 
 mod causes;
 mod exprs;
-mod forms;
 mod known;
 mod line;
+mod line_kinds;
 mod names;
 mod numbers;
+mod places;
 mod reader;
 mod script;
 mod sentence;
@@ -19,7 +20,9 @@ mod statement;
 #[cfg(test)]
 mod tests;
 
-pub use dia_defs::{Cause, Word};
+pub use line_kinds::kinds_of_exprs;
 pub use reader::{ReadErr, read_script};
+pub use row_defs::Cause;
 pub use script::Script;
+pub use script_defs::Word;
 pub use statement::{Action, Form, Numbered, Statement};

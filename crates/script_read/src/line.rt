@@ -1,30 +1,36 @@
 //! Reads one line.
-ghost use Rattle.std.specs.Prelude.{◌≡◌, [], ◌≤◌, ◌<◌, true, false, None, Some, IsSome, is_none, length, map, IfOk, slice_get, unwrap_or};
-ghost use Rattle.std.specs.List.{list_all, list_any, filter_map};
+ghost use Rattle.std.specs.Prelude.{◌≡◌, ◌<◌, ◌^◌, [], true, false, None, Some, IsSome, ℕ, List, is_none, length, map, IfOk, unwrap_or};
+ghost use Rattle.std.specs.List.{list_all};
 ghost use Rattle.std.specs.Option.{option_map};
-ghost use Rattle.dia_defs.specs.Values.{expr_kind};
-ghost use Rattle.dia_defs.specs.Scripts.{line};
-ghost use Rattle.dia_defs.specs.Forms.{column_word, number_word, value_in, first_expr, exprs_in};
-ghost use Rattle.dia_defs.specs.Reading.{is_printable, first_cause, word_tests, line_reading, kinds_of_line, statement_in, reading_of_sentence, stated, reading_of_parts, is_no_column};
+ghost use Rattle.row_defs.specs.LocalOps.{filter_op};
+ghost use Rattle.script_defs.specs.Scripts.{local_form, statement_kinds};
+ghost use Rattle.script_defs.specs.Stating.{statement_of, first_operand, first_expr, op_selected};
+ghost use Rattle.script_defs.specs.Reading.{is_printable, line_reading, said_of, selector_in, is_no_column, has_bad_column, operand_kinds, exprs_in, kinds_among, numbers_among, within_columns, reading_of_word, reading_of_parts, value_in, column_word, number_word};
 ghost use Rattle.dia_expr.specs.Exprs.{expr_in};
 ghost use Rattle.dia_item.specs.KindList.{kind_list};
-ghost use Rattle.script_read.specs.Knowing.{known_in};
+ghost use Rattle.script_read.specs.Knowing.{known_in, earlier_at};
 ghost use Rattle.script_read.specs.Sentences.{sentence_in, words_in, bytes_in};
-ghost use Rattle.script_read.specs.Statements.{form_in, action_in};
-ghost use Rattle.script_read.specs.Accepting.{IsAccepted, AreTexts, line_read_in};
+ghost use Rattle.script_read.specs.Statements.{form_in};
+ghost use Rattle.script_read.specs.Accepting.{IsStatable, AreTexts, CanTellStated, stated_as, line_read_in};
 
 use crate::causes::{cause_of, cause_of_unknown};
 use crate::exprs::read_exprs;
-use crate::forms::{column_word, number_word, selector_of, word_of};
 use crate::known::{Earlier, Known};
+use crate::line_kinds::kinds_of_form;
 use crate::numbers::value_in;
+use crate::places::{
+    column_word, first_word, number_word, operand_words, selector_in, shape_in, word_of,
+};
 use crate::sentence::{Sentence, is_skipped, parts_of};
 use crate::statement::{Action, Form};
-use dia_defs::{Cause, Kind, Selector, Word};
 use dia_edge::{Name, NoMemory};
-use dia_expr::{Expr, kind_of};
+use dia_expr::Expr;
 use dia_item::Kinds;
 use dia_text::words;
+use row_defs::Cause;
+use row_defs::limits::MOST_COLUMNS;
+use script_defs::limits::LINE_LIMIT;
+use script_defs::{Selector, Shape, Word};
 use std::alloc::Global;
 
 /// What a line reads as.
@@ -40,6 +46,13 @@ pub(crate) enum LineRead {
     Act(Action),
 }
 
+/// What a line states, beside its name.
+#[derive(Drop)]
+pub(crate) enum Stated {
+    Line(Form),
+    Act(Action),
+}
+
 /// A name with these bytes.
 fn name_of(alloc: Global, word: &[u8]) -> Result<Name, NoMemory>
     requires { list_all is_printable word.now ≡ true }
@@ -51,188 +64,149 @@ fn name_of(alloc: Global, word: &[u8]) -> Result<Name, NoMemory>
     }
 }
 
-/// A line with the name that is defined.
-fn line_of(
-    alloc: Global,
-    s: &Sentence<'_, '_>,
-    form: Form,
-    kinds: Kinds,
-) -> Result<LineRead, NoMemory>
-    requires texts { AreTexts (sentence_in s.now).defines (sentence_in s.now).args }
-    requires named { IsSome (sentence_in s.now).defines }
-    ensures { IfOk result (λ read. line_read_in read
-        ≡ stated (line (unwrap_or (sentence_in s.now).defines []) (form_in form)) (kind_list kinds)) }
+/// The number of the first operand's line.
+fn first_number(operands: &[&Earlier]) -> u32
+    ensures { result ≡ first_operand (numbers_among (map earlier_at operands.now)) }
 {
-    let Some(name) = s.defines else {
-        unreachable!()
-    };
-    Ok(LineRead::Line {
-        name: name_of(alloc, name)?,
-        form,
-        kinds,
-    })
-}
-
-/// The kinds of the expressions on rows of these kinds.
-fn kinds_of_exprs(alloc: Global, exprs: &[Expr], of: &Kinds) -> Result<Vec<Kind>, NoMemory>
-    ensures { IfOk result (λ kinds. kinds.items ≡ filter_map (expr_kind (kind_list of.now)) (map expr_in exprs.now)) }
-{
-    let mut kinds = Vec::new(alloc);
-    for expr in exprs {
-        if let Some(kind) = kind_of(expr, of).ok() {
-            kinds.push(kind)?;
-        }
+    match operands.first() {
+        None => 0,
+        Some(operand) => operand.number,
     }
-    Ok(kinds)
 }
 
-/// The kinds of a row of these expressions, each of which has one.
-fn row_kinds(alloc: Global, exprs: &[Expr], of: &Kinds) -> Result<Kinds, NoMemory>
-    requires some { 0 < length exprs.now }
-    requires few { length exprs.now ≤ 6 }
-    requires kinds { list_any (λ e. is_none (expr_kind (kind_list of.now) e)) (map expr_in exprs.now) ≡ false }
-    ensures { IfOk result (λ kinds. kind_list kinds ≡ filter_map (expr_kind (kind_list of.now)) (map expr_in exprs.now)) }
+/// The column of the operand that stands in its place.
+fn column_of(shape: &Shape, args: &[&[u8]], operands: &[&Earlier]) -> u32
+    requires some { 0 < length operands.now }
+    requires columns { has_bad_column (operand_kinds (map earlier_at operands.now)) shape.now (words_in args.now) ≡ false }
+    ensures { result ≡ value_in (column_word shape.now.column (words_in args.now)) }
 {
-    let kinds = kinds_of_exprs(alloc, exprs, of)?;
-    match Kinds::new(kinds.as_slice()) {
-        Some(kinds) => Ok(kinds),
+    match operands.first() {
         None => unreachable!(),
+        Some(operand) => column_among(&operand.kinds, column_word(shape.column, args)),
     }
 }
 
-/// The column that stands behind the word; 0 where none does.
-fn column_of(operand: &Earlier, word: Word, args: &[&[u8]]) -> u32
-    requires { is_no_column (kind_list operand.now.kinds) (column_word word (words_in args.now)) ≡ false }
-    ensures { result ≡ value_in (column_word word (words_in args.now)) }
+/// The number of a column that is one of these.
+fn column_among(kinds: &Kinds, column: Option<&[u8]>) -> u32
+    requires { is_no_column (kind_list kinds.now) (option_map bytes_in column) ≡ false }
+    ensures { result ≡ value_in (option_map bytes_in column.entry) }
 {
-    value_in(column_word(word, args)) as u32
+    prove!(kinds.list().len() <= MOST_COLUMNS);
+    value_in(column) as u32
 }
 
-fn read_lines(alloc: Global, s: &Sentence<'_, '_>, known: &Known) -> Result<LineRead, NoMemory>
-    requires accepted { IsAccepted (known_in known.now) Word.Lines (sentence_in s.now).args }
-    requires texts { AreTexts (sentence_in s.now).defines (sentence_in s.now).args }
-    requires named { IsSome (sentence_in s.now).defines }
-    ensures { IfOk result (λ read. line_read_in read ≡ reading_of_sentence (known_in known.now) (sentence_in s.now) (Some Word.Lines) None) }
+fn filter_of(of: u32, exprs: Vec<Expr>) -> Form
+    ensures { form_in result ≡ local_form of (filter_op (first_expr (map expr_in exprs.items))) }
 {
-    let Some(input) = s.args.first() else {
-        unreachable!()
+    let test = match exprs.into_iter().next() {
+        None => Expr::Number(0),
+        Some(test) => test,
     };
-    let form = Form::Lines {
-        input: name_of(alloc, input)?,
-    };
-    line_of(alloc, s, form, Kinds::one(Kind::Text))
+    Form::Filter { of, test }
 }
 
-fn read_generate(alloc: Global, s: &Sentence<'_, '_>, known: &Known) -> Result<LineRead, NoMemory>
-    requires accepted { IsAccepted (known_in known.now) Word.Generate (sentence_in s.now).args }
-    requires texts { AreTexts (sentence_in s.now).defines (sentence_in s.now).args }
-    requires named { IsSome (sentence_in s.now).defines }
-    ensures { IfOk result (λ read. line_read_in read ≡ reading_of_sentence (known_in known.now) (sentence_in s.now) (Some Word.Generate) None) }
+fn flat_map_of(of: u32, shape: &Shape, args: &[&[u8]], operands: &[&Earlier]) -> Form
+    requires some { 0 < length operands.now }
+    requires columns { has_bad_column (operand_kinds (map earlier_at operands.now)) shape.now (words_in args.now) ≡ false }
+    requires numbers { value_in (number_word shape.now.number (words_in args.now)) < 2 ^ 32 }
+    ensures { form_in result ≡ local_form of (op_selected (selector_in (words_in args.now)) (value_in (column_word shape.now.column (words_in args.now)))
+        (value_in (number_word shape.now.number (words_in args.now)))) }
 {
-    let form = Form::Generate {
-        count: value_in(number_word(Word::Generate, s.args)),
-    };
-    line_of(alloc, s, form, Kinds::one(Kind::Int))
-}
-
-fn read_map(
-    alloc: Global,
-    s: &Sentence<'_, '_>,
-    known: &Known,
-    exprs: Vec<Expr>,
-) -> Result<LineRead, NoMemory>
-    requires accepted { IsAccepted (known_in known.now) Word.Map (sentence_in s.now).args }
-    requires texts { AreTexts (sentence_in s.now).defines (sentence_in s.now).args }
-    requires named { IsSome (sentence_in s.now).defines }
-    requires exprs { map expr_in exprs.items ≡ exprs_in Word.Map (sentence_in s.now).args }
-    ensures { IfOk result (λ read. line_read_in read ≡ reading_of_sentence (known_in known.now) (sentence_in s.now) (Some Word.Map) None) }
-{
-    let Some(operand) = known.operand(Word::Map, s.args) else {
-        unreachable!()
-    };
-    let kinds = row_kinds(alloc, exprs.as_slice(), &operand.kinds)?;
-    let form = Form::Map {
-        of: operand.number,
-        exprs,
-    };
-    line_of(alloc, s, form, kinds)
-}
-
-fn read_filter(
-    alloc: Global,
-    s: &Sentence<'_, '_>,
-    known: &Known,
-    mut exprs: Vec<Expr>,
-) -> Result<LineRead, NoMemory>
-    requires accepted { IsAccepted (known_in known.now) Word.Filter (sentence_in s.now).args }
-    requires texts { AreTexts (sentence_in s.now).defines (sentence_in s.now).args }
-    requires named { IsSome (sentence_in s.now).defines }
-    requires exprs { map expr_in exprs.items ≡ exprs_in Word.Filter (sentence_in s.now).args }
-    ensures { IfOk result (λ read. line_read_in read ≡ reading_of_sentence (known_in known.now) (sentence_in s.now) (Some Word.Filter) None) }
-{
-    let (Some(operand), Some(test)) = (known.operand(Word::Filter, s.args), exprs.pop()) else {
-        unreachable!()
-    };
-    let form = Form::Filter {
-        of: operand.number,
-        test,
-    };
-    line_of(alloc, s, form, operand.kinds)
-}
-
-fn read_flat_map(alloc: Global, s: &Sentence<'_, '_>, known: &Known) -> Result<LineRead, NoMemory>
-    requires accepted { IsAccepted (known_in known.now) Word.FlatMap (sentence_in s.now).args }
-    requires texts { AreTexts (sentence_in s.now).defines (sentence_in s.now).args }
-    requires named { IsSome (sentence_in s.now).defines }
-    ensures { IfOk result (λ read. line_read_in read ≡ reading_of_sentence (known_in known.now) (sentence_in s.now) (Some Word.FlatMap) None) }
-{
-    let Some(operand) = known.operand(Word::FlatMap, s.args) else {
-        unreachable!()
-    };
-    let of = operand.number;
-    let column = column_of(operand, Word::FlatMap, s.args);
-    let form = match selector_of(s.args) {
+    let column = column_of(shape, args, operands);
+    match selector_in(args) {
         Some(Selector::Spread) => Form::Spread {
             of,
             column,
-            count: value_in(number_word(Word::FlatMap, s.args)) as u32,
+            count: value_in(number_word(shape.number, args)) as u32,
         },
         Some(Selector::Words) | None => Form::Words { of, column },
-    };
-    line_of(alloc, s, form, operand.kinds)
+    }
 }
 
-fn read_print(s: &Sentence<'_, '_>, known: &Known) -> LineRead
-    requires { IsAccepted (known_in known.now) Word.Print (sentence_in s.now).args }
-    ensures { line_read_in result ≡ reading_of_sentence (known_in known.now) (sentence_in s.now) (Some Word.Print) None }
+/// What a line for which no cause applies states.
+fn state(
+    alloc: Global,
+    word: Word,
+    shape: &Shape,
+    args: &[&[u8]],
+    operands: &[&Earlier],
+    exprs: Vec<Expr>,
+) -> Result<Stated, NoMemory>
+    requires texts { list_all (list_all is_printable) (words_in args.now) ≡ true }
+    requires fits { IsStatable word (map earlier_at operands.now) shape.now (words_in args.now) }
+    requires exprs { map expr_in exprs.items ≡ exprs_in shape.now.exprs (words_in args.now) }
+    ensures { IfOk result (λ stated. (name : List ℕ) → stated_as name stated ≡ statement_of name word (said_of (map earlier_at operands.now) shape.now (words_in args.now))) }
 {
-    let Some(operand) = known.operand(Word::Print, s.args) else {
-        unreachable!()
-    };
-    LineRead::Act(Action::Print { of: operand.number })
+    let of = first_number(operands);
+    match word {
+        Word::Lines => Ok(Stated::Line(Form::Lines {
+            input: name_of(alloc, first_word(args))?,
+        })),
+        Word::Generate => Ok(Stated::Line(Form::Generate {
+            count: value_in(number_word(shape.number, args)),
+        })),
+        Word::Map => Ok(Stated::Line(Form::Map { of, exprs })),
+        Word::Filter => Ok(Stated::Line(filter_of(of, exprs))),
+        Word::FlatMap => Ok(Stated::Line(flat_map_of(of, shape, args, operands))),
+        Word::Print => Ok(Stated::Act(Action::Print { of })),
+        Word::Size => Ok(Stated::Act(Action::Size { of })),
+        Word::Sum => Ok(Stated::Act(Action::Sum {
+            of,
+            column: column_of(shape, args, operands),
+        })),
+    }
 }
 
-fn read_size(s: &Sentence<'_, '_>, known: &Known) -> LineRead
-    requires { IsAccepted (known_in known.now) Word.Size (sentence_in s.now).args }
-    ensures { line_read_in result ≡ reading_of_sentence (known_in known.now) (sentence_in s.now) (Some Word.Size) None }
+/// A line with the name that it defines, or an action.
+fn line_read(
+    alloc: Global,
+    s: &Sentence<'_, '_>,
+    stated: Stated,
+    operands: &[&Earlier],
+) -> Result<LineRead, NoMemory>
+    requires texts { AreTexts (sentence_in s.now).defines (sentence_in s.now).args }
+    requires tells { CanTellStated (kinds_among (map earlier_at operands.now)) stated }
+    ensures { IfOk result (λ read. line_read_in read ≡ within_columns (stated_as (unwrap_or (sentence_in s.now).defines []) stated)
+        (statement_kinds (kinds_among (map earlier_at operands.now)) (stated_as (unwrap_or (sentence_in s.now).defines []) stated))) }
 {
-    let Some(operand) = known.operand(Word::Size, s.args) else {
-        unreachable!()
-    };
-    LineRead::Act(Action::Size { of: operand.number })
+    match stated {
+        Stated::Act(action) => Ok(LineRead::Act(action)),
+        Stated::Line(form) => {
+            let kinds = kinds_of_form(alloc, &form, operands)?;
+            match Kinds::new(kinds.as_slice()) {
+                None => Ok(LineRead::Refused(Cause::TooManyColumns)),
+                Some(kinds) => Ok(LineRead::Line {
+                    name: name_of(alloc, s.defines.unwrap_or(b""))?,
+                    form,
+                    kinds,
+                }),
+            }
+        }
+    }
 }
 
-fn read_sum(s: &Sentence<'_, '_>, known: &Known) -> LineRead
-    requires { IsAccepted (known_in known.now) Word.Sum (sentence_in s.now).args }
-    ensures { line_read_in result ≡ reading_of_sentence (known_in known.now) (sentence_in s.now) (Some Word.Sum) None }
+/// Reads a line whose word is known.
+fn read_word(
+    alloc: Global,
+    known: &Known,
+    line: &[u8],
+    s: &Sentence<'_, '_>,
+    word: Word,
+) -> Result<LineRead, NoMemory>
+    requires { list_all is_printable line.now ≡ true → AreTexts (sentence_in s.now).defines (sentence_in s.now).args }
+    ensures { IfOk result (λ read. line_read_in read ≡ reading_of_word (known_in known.now) line.now (sentence_in s.now) (Some word)) }
 {
-    let Some(operand) = known.operand(Word::Sum, s.args) else {
-        unreachable!()
-    };
-    LineRead::Act(Action::Sum {
-        of: operand.number,
-        column: column_of(operand, Word::Sum, s.args),
-    })
+    let shape = shape_in(word, s.args);
+    let operands = known.operands(alloc, operand_words(&shape, s.args))?;
+    let exprs = read_exprs(alloc, shape.exprs, s.args)?;
+    let operands = operands.as_slice();
+    match cause_of(known, line, s, &shape, operands, &exprs) {
+        Some(cause) => Ok(LineRead::Refused(cause)),
+        None => {
+            let stated = state(alloc, word, &shape, s.args, operands, exprs.list)?;
+            line_read(alloc, s, stated, operands)
+        }
+    }
 }
 
 fn read_sentence(
@@ -244,31 +218,18 @@ fn read_sentence(
     requires { list_all is_printable line.now ≡ true → AreTexts (sentence_in s.now).defines (sentence_in s.now).args }
     ensures { IfOk result (λ read. line_read_in read ≡ reading_of_parts (known_in known.now) line.now (sentence_in s.now)) }
 {
-    let Some(word) = word_of(s) else {
-        return Ok(LineRead::Refused(cause_of_unknown(known, line, s)));
-    };
-    let exprs = read_exprs(alloc, word, s.args)?;
-    if let Some(cause) = cause_of(known, line, s, word, &exprs) {
-        return Ok(LineRead::Refused(cause));
-    }
-    match word {
-        Word::Lines => read_lines(alloc, s, known),
-        Word::Generate => read_generate(alloc, s, known),
-        Word::Map => read_map(alloc, s, known, exprs.list),
-        Word::Filter => read_filter(alloc, s, known, exprs.list),
-        Word::FlatMap => read_flat_map(alloc, s, known),
-        Word::Print => Ok(read_print(s, known)),
-        Word::Size => Ok(read_size(s, known)),
-        Word::Sum => Ok(read_sum(s, known)),
+    match word_of(s) {
+        None => Ok(LineRead::Refused(cause_of_unknown(known, line, s))),
+        Some(word) => read_word(alloc, known, line, s, word),
     }
 }
 
 /// What a line reads as.
-#[tactic(auto, unfolding(dia_defs::specs::Reading::line_reading))]
+#[tactic(auto, unfolding(script_defs::specs::Reading::line_reading))]
 pub(crate) fn read_line(alloc: Global, known: &Known, line: &[u8]) -> Result<LineRead, NoMemory>
     ensures { IfOk result (λ read. line_read_in read ≡ line_reading (known_in known.now) line.now) }
 {
-    if line.len() > 512 {
+    if line.len() > LINE_LIMIT {
         return Ok(LineRead::Refused(Cause::LineLong));
     }
     let words = words(alloc, line)?;

@@ -1,7 +1,7 @@
 //! Names and the bytes of a line.
 ghost use Rattle.std.specs.Prelude.{◌≡◌, ◌∷◌, length};
 ghost use Rattle.std.specs.List.{list_all};
-ghost use Rattle.dia_defs.specs.Reading.{is_lower, is_name_byte, is_name, is_printable};
+ghost use Rattle.script_defs.specs.Reading.{is_lower, is_name_byte, is_name, is_printable};
 
 use crate::numbers::is_digit;
 

@@ -2,8 +2,8 @@
 ghost use Rattle.std.specs.Prelude.{◌≡◌};
 ghost use Rattle.std.specs.List.{list_all};
 ghost use Rattle.std.specs.Option.{option_map};
-ghost use Rattle.dia_defs.specs.Texts.{is_decimal, number_spelled};
-ghost use Rattle.dia_defs.specs.Forms.{value_in};
+ghost use Rattle.row_defs.specs.Texts.{is_decimal, number_spelled};
+ghost use Rattle.script_defs.specs.Reading.{value_in};
 ghost use Rattle.script_read.specs.Sentences.{bytes_in};
 
 pub(crate) fn is_digit(b: u8) -> bool

@@ -1,10 +1,10 @@
 //! Reads a script.
 ghost use Rattle.std.specs.Prelude.{◌≡◌, ◌<◌, ◌≤◌, nat_lt, ℕ, ◌+◌, List, [], length, map, IfOk, IfErr, OnOk, Ok, Err, ◌∷◌, ◌++◌};
-ghost use Rattle.dia_defs.specs.Scripts.{line, act};
-ghost use Rattle.dia_defs.specs.Sound.{IsSound};
+ghost use Rattle.script_defs.specs.Scripts.{line, act};
+ghost use Rattle.script_defs.specs.Sound.{IsSound};
 ghost use Rattle.dia_item.specs.KindList.{kind_list};
-ghost use Rattle.dia_defs.specs.Pieces.{pieces_from, lines_of};
-ghost use Rattle.dia_defs.specs.Reading.{reading_of, reading_from, nothing_known, known_after, ReadsAs};
+ghost use Rattle.row_defs.specs.Pieces.{pieces_from, lines_of};
+ghost use Rattle.script_defs.specs.Reading.{reading_of, reading_from, nothing_known, known_after, ReadsAs};
 ghost use Rattle.script_read.specs.Answering.{after_all, IsReason};
 ghost use Rattle.script_read.specs.Knowing.{known_in};
 ghost use Rattle.script_read.specs.Statements.{numbered_in, form_in, action_in};
@@ -13,10 +13,11 @@ use crate::known::{Earlier, Known};
 use crate::line::{LineRead, read_line};
 use crate::script::Script;
 use crate::statement::{Action, Form, Numbered, Statement};
-use dia_defs::Cause;
 use dia_edge::{Name, NoMemory};
 use dia_item::Kinds;
 use dia_text::cut_off;
+use row_defs::Cause;
+use script_defs::limits::{SCRIPT_LIMIT, SCRIPT_LINES_LIMIT};
 use std::alloc::Global;
 
 /// Why a script wasn't read.
@@ -43,11 +44,6 @@ impl From<NoMemory> for ReadErr {
     }
 }
 
-/// The most bytes of a script, and of its lines.
-pub const SCRIPT_LIMIT: usize = 131_328;
-
-const LINES_LIMIT: u32 = 256;
-
 /// What was read so far.
 #[derive(Drop)]
 struct Reader {
@@ -55,10 +51,10 @@ struct Reader {
     statements: Vec<Numbered>,
 }
 
-#[tactic(auto, unfolding(dia_defs::specs::Pieces::pieces_from))]
+#[tactic(auto, unfolding(row_defs::specs::Pieces::pieces_from))]
 fn has_too_many_lines(bytes: &[u8]) -> bool
     requires { length bytes.now ≤ SCRIPT_LIMIT }
-    ensures { result ≡ nat_lt 256 (length (lines_of bytes.now)) }
+    ensures { result ≡ nat_lt SCRIPT_LINES_LIMIT (length (lines_of bytes.now)) }
 {
     let mut rest = bytes;
     let mut lines = 0u32;
@@ -67,7 +63,7 @@ fn has_too_many_lines(bytes: &[u8]) -> bool
         rest = more;
         lines += 1;
     }
-    lines > LINES_LIMIT
+    lines > SCRIPT_LINES_LIMIT
 }
 
 impl Reader {
@@ -101,7 +97,7 @@ impl Reader {
     }
 
     /// Reads one more line, the script's line `n`.
-    #[tactic(auto, unfolding(dia_defs::specs::Reading::reading_from))]
+    #[tactic(auto, unfolding(script_defs::specs::Reading::reading_from))]
     fn take(&mut self, alloc: Global, n: u32, line: &[u8]) -> Result<(), ReadErr>
         ensures ok { OnOk result ((more : List (List ℕ)) →
             after_all (map numbered_in self.old.statements.items) (reading_from (known_in self.old.known) n (line.now ∷ more))
@@ -119,7 +115,7 @@ impl Reader {
 
 /// Reads a script: at most 256 lines of 512 bytes, one statement a line, empty lines and lines that begin with `#`
 /// passed over.
-#[tactic(auto, unfolding(dia_defs::specs::Reading::reading_of))]
+#[tactic(auto, unfolding(script_defs::specs::Reading::reading_of))]
 pub fn read_script(alloc: Global, bytes: &[u8]) -> Result<Script, ReadErr>
     ensures ok { IfOk result (λ script. ReadsAs bytes.now script) }
     ensures sound { IfOk result (λ script. IsSound nothing_known 1 script) }
@@ -127,7 +123,7 @@ pub fn read_script(alloc: Global, bytes: &[u8]) -> Result<Script, ReadErr>
 {
     if bytes.len() > SCRIPT_LIMIT || has_too_many_lines(bytes) {
         return Err(ReadErr::Bad {
-            line: LINES_LIMIT + 1,
+            line: SCRIPT_LINES_LIMIT + 1,
             cause: Cause::ScriptLong,
         });
     }

@@ -13,12 +13,12 @@ pub struct Script {
 
 impl Model for Script {
     ghost use Rattle.std.specs.Prelude.{map};
-    ghost use Rattle.dia_defs.specs.Scripts as defs;
+    ghost use Rattle.script_defs.specs.Scripts as defs;
 
     ghost Value = { defs.Script };
 
     ghost use Rattle.std.specs.Coded.{codes};
-    ghost use Rattle.dia_defs.specs.Coding.{expr_code};
+    ghost use Rattle.row_defs.specs.Coding.{expr_code};
 
     ghost coded = { Prim.hlevel (codes, expr_code) };
 

@@ -1,6 +1,6 @@
 //! The parts of a line.
 ghost use Rattle.std.specs.Prelude.{◌≡◌, map};
-ghost use Rattle.dia_defs.specs.Reading.{sentence_of, is_skipped_words};
+ghost use Rattle.script_defs.specs.Reading.{sentence_of, is_skipped_words};
 ghost use Rattle.script_read.specs.Sentences.{sentence_in, words_in};
 
 /// The parts of a line: the name before `=`, the statement or action word, and the words after it.

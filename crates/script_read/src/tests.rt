@@ -10,8 +10,8 @@ fn bad(line: u32, cause: Cause) -> Option<ReadErr> {
 }
 
 /// The bytes, and behind them one more byte so many times.
-fn repeated(alloc: Global, front: &[u8], byte: u8, count: u64) -> Result<Vec<u8>, NoMemory> {
-    let mut bytes = Vec::from_slice(alloc, front)?;
+fn repeated(alloc: Global, prefix: &[u8], byte: u8, count: u64) -> Result<Vec<u8>, NoMemory> {
+    let mut bytes = Vec::from_slice(alloc, prefix)?;
     for _ in 0..count {
         bytes.push(byte)?;
     }
@@ -223,8 +223,8 @@ fn long_scripts_are_refused(rt: HostRuntime) -> Result<(), Fail> {
             bad(2, Cause::LineLong),
         ),
     ];
-    for (front, byte, count, want) in cases {
-        let script = repeated(rt.alloc(), front, byte, count)?;
+    for (prefix, byte, count, want) in cases {
+        let script = repeated(rt.alloc(), prefix, byte, count)?;
         assert_eq!(rt; read_script(rt.alloc(), script.as_slice()).err(), want);
     }
     Ok(())

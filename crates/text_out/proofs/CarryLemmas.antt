@@ -1,6 +1,6 @@
 -- Bytes on their way to a sink.
 use Rattle.std.proofs.Common.{ℕ, List, [], ◌++◌, Option, Some, None, Result, Ok, Err, OnErr, sym, ap, subst, ◌∙◌, append_assoc, append-nil}
-use Rattle.dia_edge.specs.Sinks.{TookFront}
+use Rattle.dia_edge.specs.Sinks.{TookAll, TookPrefix}
 use Rattle.text_out.specs.Carrying.{CarriesOn}
 
 pub carries_none : (taken : Option (List ℕ)) (waiting : List ℕ) → CarriesOn taken waiting [] taken waiting
@@ -18,10 +18,10 @@ carries_trans (Some t) b c w v u x y p q =
     )
 
 -- a failure after some of it
-pub front_after : (a b c : Option (List ℕ)) (w v x y : List ℕ) → CarriesOn a w x b v → TookFront b (v ++ y) c → TookFront a (w ++ (x ++ y)) c
-front_after None b c w v x y p q = tt
-front_after (Some t) b c w v x y p q =
-    let Took : Option (List ℕ) → Type 0 = λ o. TookFront o (v ++ y) c in
+pub prefix_after : (a b c : Option (List ℕ)) (w v x y : List ℕ) → CarriesOn a w x b v → TookPrefix b (v ++ y) c → TookPrefix a (w ++ (x ++ y)) c
+prefix_after None b c w v x y p q = tt
+prefix_after (Some t) b c w v x y p q =
+    let Took : Option (List ℕ) → Type 0 = λ o. TookPrefix o (v ++ y) c in
     let r = subst Took p.1 q in (
       p.0 ++ r.0,
       r.1,
@@ -29,16 +29,24 @@ front_after (Some t) b c w v x y p q =
       r.3 ∙ ap Some (append_assoc t p.0 r.0),
     )
 
--- what is a front is one of more
-pub front_longer : (a c : Option (List ℕ)) (x y : List ℕ) → TookFront a x c → TookFront a (x ++ y) c
-front_longer None c x y p = tt
-front_longer (Some t) c x y p = (p.0, p.1 ++ y, ap (λ (xs : List ℕ). xs ++ y) p.2 ∙ append_assoc p.0 p.1 y, p.3)
+-- what is a prefix is one of more
+pub prefix_longer : (a c : Option (List ℕ)) (x y : List ℕ) → TookPrefix a x c → TookPrefix a (x ++ y) c
+prefix_longer None c x y p = tt
+prefix_longer (Some t) c x y p = (p.0, p.1 ++ y, ap (λ (xs : List ℕ). xs ++ y) p.2 ∙ append_assoc p.0 p.1 y, p.3)
 
 pub OnErr-map : {T E : Type 0} (r : Result T E) (P Q : Type 0) → (P → Q) → OnErr r P → OnErr r Q
 OnErr-map (Ok t) P Q f p = p
 OnErr-map (Err e) P Q f p = f p
 
-pub front_more : (a c : Option (List ℕ)) (w x y : List ℕ) → TookFront a (w ++ x) c → TookFront a (w ++ (x ++ y)) c
-front_more a c w x y p =
-    let Took : List ℕ → Type 0 = λ xs. TookFront a xs c in
-    subst Took (append_assoc w x y) (front_longer a c (w ++ x) y p)
+pub prefix_more : (a c : Option (List ℕ)) (w x y : List ℕ) → TookPrefix a (w ++ x) c → TookPrefix a (w ++ (x ++ y)) c
+prefix_more a c w x y p =
+    let Took : List ℕ → Type 0 = λ xs. TookPrefix a xs c in
+    subst Took (append_assoc w x y) (prefix_longer a c (w ++ x) y p)
+
+-- a failure behind a piece that was taken
+pub prefix_then : (a b c : Option (List ℕ)) (x y : List ℕ) → TookAll a x b → TookPrefix b y c → TookPrefix a (x ++ y) c
+prefix_then None b c x y p q = tt
+prefix_then (Some t) b c x y p q =
+    let Took : Option (List ℕ) → Type 0 = λ o. TookPrefix o y c in
+    let r = subst Took p q in
+    (x ++ r.0, r.1, ap (λ (xs : List ℕ). x ++ xs) r.2 ∙ sym (append_assoc x r.0 r.1), r.3 ∙ ap Some (append_assoc t x r.0))

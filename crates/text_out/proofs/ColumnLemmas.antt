@@ -2,8 +2,8 @@
 use Rattle.std.proofs.Common.{◌≡◌, ℕ, zero, suc, ◌+◌, ◌-◌, ◌≤◌, List, [], ◌∷◌, ◌++◌, take, drop, map, Some, refl, sym, ap, ◌∙◌, arith, append_assoc, append-nil}
 use Rattle.std.specs.Prelude.{slice_get}
 use Rattle.std.specs.List.{join_with_byte}
-use Rattle.dia_defs.specs.Rows.{Cell, Row}
-use Rattle.dia_defs.specs.Runs.{cell_text, row_text}
+use Rattle.row_defs.specs.Rows.{Cell, Row}
+use Rattle.row_defs.specs.Printed.{cell_text, row_text}
 use Rattle.text_out.specs.Columns.{next_text, nexts_text}
 
 texts_more : (cells : Row) (k : ℕ) (cell : Cell) → slice_get cells k ≡ Some cell

@@ -1,8 +1,8 @@
 -- The text of a row, column by column.
 use Rattle.std.specs.Prelude.{ℕ, List, ◌∷◌}
 use Rattle.std.specs.List.{flat_map}
-use Rattle.dia_defs.specs.Rows.{Cell, Row}
-use Rattle.dia_defs.specs.Runs.{cell_text}
+use Rattle.row_defs.specs.Rows.{Cell, Row}
+use Rattle.row_defs.specs.Printed.{cell_text}
 
 -- a column behind another one
 abbrev pub next_text : Cell → List ℕ

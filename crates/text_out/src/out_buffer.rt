@@ -1,7 +1,7 @@
 //! A buffer before a sink.
 ghost use Rattle.std.specs.Prelude.{◌≡◌, ◌≤◌, ◌+◌, ◌++◌, [], length, IfOk, OnOk, OnErr, is_some, vec_len, vec_capacity};
 ghost use Rattle.dia_edge.specs.Counts.{HasRisen};
-ghost use Rattle.dia_edge.specs.Sinks.{TookAll, TookFront};
+ghost use Rattle.dia_edge.specs.Sinks.{TookAll, TookPrefix};
 ghost use Rattle.text_out.specs.Carrying.{CarriesOn};
 
 use dia_edge::{Failed, NoMemory, Sink};
@@ -56,7 +56,7 @@ impl OutBuffer {
     pub fn flush<S: Sink>(&mut self, out: &mut S) -> Result<(), Failed>
         ensures ok { OnOk result (TookAll (S.taken out.old) self.old (S.taken out.new)) }
         ensures empty { OnOk result (self.new ≡ []) }
-        ensures failed { OnErr result (TookFront (S.taken out.old) self.old (S.taken out.new)) }
+        ensures failed { OnErr result (TookPrefix (S.taken out.old) self.old (S.taken out.new)) }
         ensures rose { OnErr result (HasRisen (S.faults out.old) (S.faults out.new)) }
         ensures counts { S.faults out.old ≤ S.faults out.new }
         ensures tells { is_some (S.taken out.new) ≡ is_some (S.taken out.old) }
@@ -78,7 +78,7 @@ impl OutBuffer {
     #[inline(never)]
     fn push_past<S: Sink>(&mut self, out: &mut S, bytes: &[u8]) -> Result<(), Failed>
         ensures ok { OnOk result (CarriesOn (S.taken out.old) self.old bytes.now (S.taken out.new) self.new) }
-        ensures failed { OnErr result (TookFront (S.taken out.old) (self.old ++ bytes.now) (S.taken out.new)) }
+        ensures failed { OnErr result (TookPrefix (S.taken out.old) (self.old ++ bytes.now) (S.taken out.new)) }
         ensures rose { OnErr result (HasRisen (S.faults out.old) (S.faults out.new)) }
         ensures counts { S.faults out.old ≤ S.faults out.new }
         ensures tells { is_some (S.taken out.new) ≡ is_some (S.taken out.old) }
@@ -98,7 +98,7 @@ impl OutBuffer {
     #[inline(always)]
     pub fn push<S: Sink>(&mut self, out: &mut S, bytes: &[u8]) -> Result<(), Failed>
         ensures ok { OnOk result (CarriesOn (S.taken out.old) self.old bytes.now (S.taken out.new) self.new) }
-        ensures failed { OnErr result (TookFront (S.taken out.old) (self.old ++ bytes.now) (S.taken out.new)) }
+        ensures failed { OnErr result (TookPrefix (S.taken out.old) (self.old ++ bytes.now) (S.taken out.new)) }
         ensures rose { OnErr result (HasRisen (S.faults out.old) (S.faults out.new)) }
         ensures counts { S.faults out.old ≤ S.faults out.new }
         ensures tells { is_some (S.taken out.new) ≡ is_some (S.taken out.old) }

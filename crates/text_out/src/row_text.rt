@@ -1,9 +1,9 @@
 //! The text of a row.
 ghost use Rattle.std.specs.Prelude.{◌≡◌, ◌≤◌, ◌<◌, ◌+◌, ◌++◌, ◌∷◌, [], length, take, drop, Some, slice_get, OnOk, OnErr, is_some};
-ghost use Rattle.dia_defs.specs.Rows.{Cell, int};
-ghost use Rattle.dia_defs.specs.Runs.{cell_text, row_text};
+ghost use Rattle.row_defs.specs.Rows.{Cell, int};
+ghost use Rattle.row_defs.specs.Printed.{cell_text, row_text};
 ghost use Rattle.dia_edge.specs.Counts.{HasRisen};
-ghost use Rattle.dia_edge.specs.Sinks.{TookFront};
+ghost use Rattle.dia_edge.specs.Sinks.{TookPrefix};
 ghost use Rattle.dia_item.specs.Fields.{cell_of};
 ghost use Rattle.dia_item.specs.Lent.{row_in_ref};
 ghost use Rattle.text_out.specs.Carrying.{CarriesOn};
@@ -17,7 +17,7 @@ use dia_item::{Field, RowRef};
 #[inline(never)]
 fn push_int<S: Sink>(buffer: &mut OutBuffer, out: &mut S, v: u64) -> Result<(), Failed>
     ensures ok { OnOk result (CarriesOn (S.taken out.old) buffer.old (cell_text (int v)) (S.taken out.new) buffer.new) }
-    ensures failed { OnErr result (TookFront (S.taken out.old) (buffer.old ++ cell_text (int v)) (S.taken out.new)) }
+    ensures failed { OnErr result (TookPrefix (S.taken out.old) (buffer.old ++ cell_text (int v)) (S.taken out.new)) }
     ensures rose { OnErr result (HasRisen (S.faults out.old) (S.faults out.new)) }
     ensures counts { S.faults out.old ≤ S.faults out.new }
     ensures tells { is_some (S.taken out.new) ≡ is_some (S.taken out.old) }
@@ -34,7 +34,7 @@ pub fn push_field<S: Sink>(
     field: Field<'_>,
 ) -> Result<(), Failed>
     ensures ok { OnOk result (CarriesOn (S.taken out.old) buffer.old (cell_text (cell_of field.entry)) (S.taken out.new) buffer.new) }
-    ensures failed { OnErr result (TookFront (S.taken out.old) (buffer.old ++ cell_text (cell_of field.entry)) (S.taken out.new)) }
+    ensures failed { OnErr result (TookPrefix (S.taken out.old) (buffer.old ++ cell_text (cell_of field.entry)) (S.taken out.new)) }
     ensures rose { OnErr result (HasRisen (S.faults out.old) (S.faults out.new)) }
     ensures counts { S.faults out.old ≤ S.faults out.new }
     ensures tells { is_some (S.taken out.new) ≡ is_some (S.taken out.old) }
@@ -49,7 +49,7 @@ pub fn push_field<S: Sink>(
 #[inline]
 fn push_next<S: Sink>(buffer: &mut OutBuffer, out: &mut S, field: Field<'_>) -> Result<(), Failed>
     ensures ok { OnOk result (CarriesOn (S.taken out.old) buffer.old (next_text (cell_of field.entry)) (S.taken out.new) buffer.new) }
-    ensures failed { OnErr result (TookFront (S.taken out.old) (buffer.old ++ next_text (cell_of field.entry)) (S.taken out.new)) }
+    ensures failed { OnErr result (TookPrefix (S.taken out.old) (buffer.old ++ next_text (cell_of field.entry)) (S.taken out.new)) }
     ensures rose { OnErr result (HasRisen (S.faults out.old) (S.faults out.new)) }
     ensures counts { S.faults out.old ≤ S.faults out.new }
     ensures tells { is_some (S.taken out.new) ≡ is_some (S.taken out.old) }
@@ -63,7 +63,7 @@ fn push_next<S: Sink>(buffer: &mut OutBuffer, out: &mut S, field: Field<'_>) -> 
 /// The columns behind the first, each behind a TAB.
 fn push_nexts<S: Sink>(buffer: &mut OutBuffer, out: &mut S, row: &RowRef<'_>) -> Result<(), Failed>
     ensures ok { OnOk result (CarriesOn (S.taken out.old) buffer.old (nexts_text (drop 1 (row_in_ref row.now))) (S.taken out.new) buffer.new) }
-    ensures failed { OnErr result (TookFront (S.taken out.old) (buffer.old ++ nexts_text (drop 1 (row_in_ref row.now))) (S.taken out.new)) }
+    ensures failed { OnErr result (TookPrefix (S.taken out.old) (buffer.old ++ nexts_text (drop 1 (row_in_ref row.now))) (S.taken out.new)) }
     ensures rose { OnErr result (HasRisen (S.faults out.old) (S.faults out.new)) }
     ensures counts { S.faults out.old ≤ S.faults out.new }
     ensures tells { is_some (S.taken out.new) ≡ is_some (S.taken out.old) }
@@ -84,7 +84,7 @@ pub fn push_row<S: Sink>(
     row: &RowRef<'_>,
 ) -> Result<(), Failed>
     ensures ok { OnOk result (CarriesOn (S.taken out.old) buffer.old (row_text (row_in_ref row.now)) (S.taken out.new) buffer.new) }
-    ensures failed { OnErr result (TookFront (S.taken out.old) (buffer.old ++ row_text (row_in_ref row.now)) (S.taken out.new)) }
+    ensures failed { OnErr result (TookPrefix (S.taken out.old) (buffer.old ++ row_text (row_in_ref row.now)) (S.taken out.new)) }
     ensures rose { OnErr result (HasRisen (S.faults out.old) (S.faults out.new)) }
     ensures counts { S.faults out.old ≤ S.faults out.new }
     ensures tells { is_some (S.taken out.new) ≡ is_some (S.taken out.old) }

@@ -6,10 +6,11 @@ ghost use Rattle.dia_edge.specs.Counts.{HasRisen};
 ghost use Rattle.dia_edge.specs.Sinks.{TookAll, TookPrefix};
 
 use dia_edge::{DirShelf, MemDisk, NoMemory, OpenGate, Sink, StdSink};
+use job_words::{TopFault, put_fault};
 use main_words::{command_words, fetch_arguments};
 use std::process::ExitCode;
 use std::sync::Wait;
-use thrill_top::{TopFault, put_fault, thrill_call};
+use thrill_top::thrill_call;
 
 /// Calls `thrill_call` with the words of the command line, and answers its status.
 fn run<R: Wait>(wait: &R, rt: HostRuntime) -> Result<u8, NoMemory> {

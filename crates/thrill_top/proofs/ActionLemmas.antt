@@ -1,35 +1,42 @@
 -- How an action goes on.
-use Rattle.std.proofs.Common.{◌≡◌, ℕ, ◌<◌, ◌≤◌, Bool, true, false, cond, ltb, List, [], ◌∷◌, ◌++◌, length, map, Option, None, Some, IsSome, find, refl, sym, ap, ◌∙◌, subst, arith, append_assoc}
+use Rattle.std.proofs.Common.{◌≡◌, ℕ, ◌<◌, ◌≤◌, Bool, true, false, cond, ltb, List, [], ◌∷◌, ◌++◌, length, map, Option, None, Some, IsSome, refl, sym, ap, ◌∙◌, subst, arith, append_assoc}
 use Rattle.std.specs.List.{AllByRecursion, flat_map, range_with_len}
 use Rattle.std.proofs.lemmas.Bool.{ltb-false, ltb-true}
-use Rattle.dia_defs.specs.declared.kind.Kind.{Kind}
-use Rattle.dia_defs.specs.Rows.{Row}
-use Rattle.dia_defs.specs.Sound.{AreSoundOps, IsSoundAction}
-use Rattle.dia_defs.specs.Scripts.{LocalOp, Form, lines_form, generate_form, local_form, Action, print_action, size_action, sum_action, action_operand, Statement, line, act, Script, statement_at}
-use Rattle.dia_defs.specs.Lists.{Inputs, Lists, too_many_rows, number_row, most_rows, block_of_action, rows_in}
-use Rattle.dia_defs.specs.Work.{Item, do_action, has_number}
-use Rattle.dia_defs.specs.Runs.{IsRightStatement, block_of_statement, action_text, row_text}
+use Rattle.row_defs.specs.declared.kind.Kind.{Kind}
+use Rattle.row_defs.specs.Limits.{most_rows}
+use Rattle.row_defs.specs.Rows.{Row, number_row}
+use Rattle.row_defs.specs.LocalOps.{AreSoundOps, LocalOp}
+use Rattle.row_defs.specs.Printed.{row_text}
+use Rattle.row_defs.specs.Inputs.{Inputs}
+use Rattle.row_defs.specs.Operands.{Root, stored_root, count_root, Operand, root_line}
+use Rattle.script_defs.specs.Scripts.{Form, lines_form, generate_form, local_form, form_kinds, Action, print_action, size_action, sum_action, action_operand, Statement, line, act, operands_of, Script, statement_at, Origin, stored, counted, made, origin_of}
+use Rattle.script_defs.specs.Sound.{IsSoundAction}
+use Rattle.script_defs.specs.Lists.{Lists, too_many_rows, failure_of_action, rows_in}
+use Rattle.script_defs.specs.Work.{Item, do_action, has_number}
+use Rattle.script_defs.specs.Runs.{IsRightStatement, failure_of_statement, text_of_rows, action_text}
+use Rattle.script_defs.specs.Plans.{IsOperand, IsRootOf}
 use Rattle.dia_edge.specs.Shelves.{Holdings}
-use Rattle.dia_edge.specs.Sinks.{TookAll, TookFront}
+use Rattle.dia_edge.specs.Sinks.{TookAll, TookPrefix}
 use Rattle.run_laws.specs.Order.{lines_among, IsReadyAction, InWork}
 use Rattle.run_laws.specs.Laws.{IsRunOf, texts_among}
 use Rattle.run_laws.proofs.RunLemmas.{goes_on, action_goes_on, runs_are_runs, roots_are_done, chains_make, right_at, lines_push_action, some_rows}
-use Rattle.thrill_top.specs.declared.kept.Kept.{Kept}
-use Rattle.thrill_top.specs.declared.making.Made.{Made}
-use Rattle.thrill_top.specs.declared.fault.TopFault.{TopFault}
-use Rattle.thrill_top.specs.declared.fault.TopFault.TheVariants as faults
 use Rattle.row_feed.specs.declared.source.Source.{Source}
 use Rattle.row_feed.specs.declared.source.Source.TheVariants.{Lines, Numbers}
-use Rattle.row_feed.specs.Sources.{source_rows, source_kinds}
+use Rattle.row_feed.specs.Sources.{IsSource, source_rows, source_kinds}
 use Rattle.lop_chain.specs.Ops.{rows_from}
-use Rattle.thrill_top.specs.Ends.{IsActFault}
-use Rattle.thrill_top.specs.Making.{ops_of, IsRoot, root_kinds, AreChains, with_number}
+use Rattle.actions.specs.declared.action.ActErr.{ActErr}
+use Rattle.actions.specs.declared.action.ActErr.TheVariants as acts
+use Rattle.actions.specs.Acting.{Refuses}
+use Rattle.actions.specs.Arriving.{IsActable}
+use Rattle.thrill_top.specs.declared.kept.StoredRows.{StoredRows}
+use Rattle.thrill_top.specs.declared.stage.RunErr.{RunErr}
+use Rattle.thrill_top.specs.declared.stage.RunErr.TheVariants as errors
+use Rattle.thrill_top.specs.Errors.{act_error}
 use Rattle.thrill_top.specs.Promise.{IsTooMany}
-use Rattle.thrill_top.specs.Steps.{kept_at, AreLines, IsMidway, IsListed, GoesOn, Stops, KeepsOn, HasRoot, IsSourceOf, text_of_rows}
-use Rattle.thrill_top.proofs.MakingLemmas.{IsChainOf, chain_of_action}
-use Rattle.thrill_top.proofs.StepLemmas.{found_same, kept_listed, IsDeviceFault, device_end, stops_here}
+use Rattle.thrill_top.specs.Steps.{kept_at, AreLines, IsListed, IsAt, GoesOn, Stops, KeepsOn, HasRows, root_kinds, IsSourceOf, IsDoable}
+use Rattle.thrill_top.proofs.StepLemmas.{kept_listed, device_end, stops_here}
 
-pub action_keeps : (script : Script) (n : ℕ) (kept : List Kept) → KeepsOn script (do_action n ∷ []) kept kept
+pub action_keeps : (script : Script) (n : ℕ) (kept : List StoredRows) → KeepsOn script (do_action n) kept kept
 action_keeps script n kept = λ done left work are. record {
   there = λ l name input has is.
       let Has : List ℕ → Type 0 = λ xs. has_number xs l ≡ true in
@@ -47,87 +54,85 @@ operand_has script done n action r is =
     let Has : Action → Type 0 = λ a. has_number done (action_operand a) ≡ true in
     subst Has same r.operand
 
--- what an action finds: the chain of its line, and the rows of the chain's root
-pub record IsServed (script : Script) (chains : List Made) (kept : List Kept) (action : Action) : Type 0 where
-  pub chain : IsChainOf script chains action
-  pub root : HasRoot chain.rooted.form kept chain.made.root
-  pub lines : AllByRecursion AreLines kept
+-- what the operand asks for ---------------------------------------------------------------------------------------------
 
-has_root : (form : Form) (kept : List Kept) (root : ℕ) → IsRoot form → ((input : List ℕ) → form ≡ lines_form input → IsSome (kept_at kept root)) → HasRoot form kept root
-has_root (lines_form input) kept root alone there = there input refl
-has_root (generate_form count) kept root alone there = tt
-has_root (local_form of op) kept root alone there = absurd alone
+root_there : (script : Script) (done left : List Item) (of : ℕ) (o : Operand) → InWork script done left → (p : IsOperand script of o)
+    → has_number (lines_among done) of ≡ true → has_number (lines_among done) (root_line o.root) ≡ true
+root_there script done left of o work p has = roots_are_done script done left (root_line o.root) o.chain of work p.chain has
 
-root_done : (script : Script) (chains : List Made) (done left : List Item) (action : Action) → InWork script done left → (c : IsChainOf script chains action)
-    → has_number (lines_among done) (action_operand action) ≡ true → has_number (lines_among done) c.made.root ≡ true
-root_done script chains done left action work c has =
-    let Has : ℕ → Type 0 = λ k. has_number (lines_among done) k ≡ true in
-    roots_are_done script done left c.made.root (ops_of c.made.ops.items) c.made.number work c.rooted.chain (subst Has (sym c.number) has)
+-- a stored line is that of an input, for now
+stored_lines : (form : Form) → origin_of form ≡ stored → (input : List ℕ) × (form ≡ lines_form input)
+stored_lines (lines_form input) is = (input, refl)
+stored_lines (generate_form count) is = let wrong : ⊥ = cc in absurd wrong
+stored_lines (local_form of op) is = let wrong : ⊥ = cc in absurd wrong
 
-pub served : (script : Script) (chains : List Made) (kept : List Kept) (n : ℕ) (action : Action) → IsMidway script (do_action n ∷ []) kept → AreChains script chains
-    → statement_at script n ≡ Some (act action) → IsServed script chains kept action
-served script chains kept n action m are is =
-    let c = chain_of_action script chains n action are is in
-    let done = root_done script chains m.done (do_action n ∷ m.left) action m.work c (operand_has script (lines_among m.done) n action m.work.order.0 is) in
+counted_numbers : (form : Form) (count : ℕ) → origin_of form ≡ counted count → form ≡ generate_form count
+counted_numbers (lines_form input) count is = let wrong : ⊥ = cc in absurd wrong
+counted_numbers (generate_form n) count is = let same : n ≡ count = cc in ap generate_form same
+counted_numbers (local_form of op) count is = let wrong : ⊥ = cc in absurd wrong
+
+root_rows : (script : Script) (done : List Item) (kept : List StoredRows) (root : Root) (name : List ℕ) (form : Form)
+    → ((input : List ℕ) → form ≡ lines_form input → IsSome (kept_at kept (root_line root))) → IsRootOf form root → HasRows kept root
+root_rows script done kept (stored_root n) name form there is = let s = stored_lines form is in there s.0 s.1
+root_rows script done kept (count_root n rows) name form there is = tt
+
+root_kinds_are : (form : Form) (root : Root) → IsRootOf form root → form_kinds [] form ≡ root_kinds root
+root_kinds_are form (stored_root n) is = let s = stored_lines form is in ap (form_kinds []) s.1
+root_kinds_are form (count_root n rows) is = ap (form_kinds []) (counted_numbers form rows is)
+
+pub doable : (script : Script) (done left : List Item) (kept : List StoredRows) (n : ℕ) (action : Action) (o : Operand) → InWork script done (do_action n ∷ left)
+    → ((l : ℕ) (name input : List ℕ) → has_number (lines_among done) l ≡ true → statement_at script l ≡ Some (line name (lines_form input)) → IsSome (kept_at kept l))
+    → AllByRecursion AreLines kept → statement_at script n ≡ Some (act action) → IsOperand script (action_operand action) o
+    → IsSoundAction o.kinds action → IsDoable action o kept
+doable script done left kept n action o work there lines is p sound =
+    let has = operand_has script (lines_among done) n action work.order.0 is in
+    let root = root_there script done (do_action n ∷ left) (action_operand action) o work p has in
+    let Kinds : List Kind → Type 0 = λ ks. AreSoundOps ks o.chain o.kinds in
     record {
-      chain = c;
-      root = has_root c.rooted.form kept c.made.root c.rooted.alone (λ input same.
-          m.are.there c.made.root c.rooted.name input done (c.rooted.root ∙ ap (λ (f : Form). Some (line c.rooted.name f)) same));
-      lines = m.are.lines;
+      rows = root_rows script done kept o.root p.name p.form (λ input same. there (root_line o.root) p.name input root (p.is ∙ ap (λ (f : Form). Some (line p.name f)) same)) p.root;
+      lines = lines;
+      sound = subst Kinds (root_kinds_are p.form o.root p.root) p.sound;
+      acts = sound;
     }
 
--- the chain that was found
-pub served_made : (script : Script) (chains : List Made) (kept : List Kept) (action : Action) (made : Made) (s : IsServed script chains kept action)
-    → find (with_number (action_operand action)) chains ≡ Some made → s.chain.made ≡ made
-served_made script chains kept action made s found = found_same (find (with_number (action_operand action)) chains) s.chain.made made s.chain.found found
-
-pub source_sound : (form : Form) (kept : List Kept) (root : ℕ) (source : Source) → IsSourceOf form kept root source → root_kinds form ≡ source_kinds source
-source_sound (lines_form input) kept root (Lines rows) is = refl
-source_sound (generate_form count) kept root (Numbers n) is = refl
-source_sound (lines_form input) kept root (Numbers n) is = absurd is
-source_sound (generate_form count) kept root (Lines rows) is = absurd is
-source_sound (local_form of op) kept root (Lines rows) is = absurd is
-source_sound (local_form of op) kept root (Numbers n) is = absurd is
+pub source_kinds_are : (kept : List StoredRows) (root : Root) (source : Source) → IsSourceOf kept root source → root_kinds root ≡ source_kinds source
+source_kinds_are kept (stored_root n) (Lines rows) is = refl
+source_kinds_are kept (count_root n count) (Numbers m) is = refl
+source_kinds_are kept (stored_root n) (Numbers m) is = absurd is
+source_kinds_are kept (count_root n count) (Lines rows) is = absurd is
 
 -- the rows of a source are the list of its line
-root_list : (script : Script) (inputs : Inputs) (lists : Lists) (done : List Item) (kept : List Kept) (root : ℕ) (name : List ℕ) (form : Form) (source : Source)
-    → IsRunOf script inputs lists done → AllByRecursion (IsListed lists) kept → has_number (lines_among done) root ≡ true
-    → statement_at script root ≡ Some (line name form) → IsSourceOf form kept root source
-    → lists root ≡ Some (source_rows source)
-root_list script inputs lists done kept root name (lines_form input) (Lines rows) run all has is of = kept_listed lists kept root rows.now all of
-root_list script inputs lists done kept root name (generate_form count) (Numbers n) run all has is of =
-    let Right : Option Statement → Type 0 = λ o. IsRightStatement inputs lists root o in
-    let r = subst Right is (right_at script inputs lists done root run.right has) in
+root_list : (script : Script) (inputs : Inputs) (lists : Lists) (done : List Item) (kept : List StoredRows) (root : Root) (name : List ℕ) (form : Form) (source : Source)
+    → IsRunOf script inputs lists done → AllByRecursion (IsListed lists) kept → has_number (lines_among done) (root_line root) ≡ true
+    → statement_at script (root_line root) ≡ Some (line name form) → IsRootOf form root → IsSourceOf kept root source
+    → lists (root_line root) ≡ Some (source_rows source)
+root_list script inputs lists done kept (stored_root n) name form (Lines rows) run all has is root of = kept_listed lists kept n rows.now all of
+root_list script inputs lists done kept (count_root n count) name form (Numbers m) run all has is root of =
+    let Right : Option Statement → Type 0 = λ o. IsRightStatement inputs lists n o in
+    let here = is ∙ ap (λ (f : Form). Some (line name f)) (counted_numbers form count root) in
+    let r = subst Right here (right_at script inputs lists done n run.right has) in
     let Rows : ℕ → Type 0 = λ k. r.0 ≡ map number_row (range_with_len 0 k) in
     r.1 ∙ ap Some (subst Rows (sym of) r.2)
-root_list script inputs lists done kept root name (lines_form input) (Numbers n) run all has is of = absurd of
-root_list script inputs lists done kept root name (generate_form count) (Lines rows) run all has is of = absurd of
-root_list script inputs lists done kept root name (local_form m op) (Lines rows) run all has is of = absurd of
-root_list script inputs lists done kept root name (local_form m op) (Numbers n) run all has is of = absurd of
+root_list script inputs lists done kept (stored_root n) name form (Numbers m) run all has is root of = absurd of
+root_list script inputs lists done kept (count_root n count) name form (Lines rows) run all has is root of = absurd of
 
 -- the rows that arrive at an action
-acted : (script : Script) (inputs : Inputs) (lists : Lists) (done left : List Item) (chains : List Made) (kept : List Kept) (action : Action) (source : Source)
+acted : (script : Script) (inputs : Inputs) (lists : Lists) (done left : List Item) (kept : List StoredRows) (action : Action) (o : Operand) (source : Source)
     → InWork script done left → IsRunOf script inputs lists done → AllByRecursion (IsListed lists) kept → has_number (lines_among done) (action_operand action) ≡ true
-    → (s : IsServed script chains kept action) → IsSourceOf s.chain.rooted.form kept s.chain.made.root source
-    → lists (action_operand action) ≡ Some (rows_from (ops_of s.chain.made.ops.items) (source_rows source))
-acted script inputs lists done left chains kept action source work run all has s of =
-    let c = s.chain in
-    let made = c.made in
-    let ops = ops_of made.ops.items in
-    let Has : ℕ → Type 0 = λ k. has_number (lines_among done) k ≡ true in
-    let m = chains_make script inputs lists done left made.root ops made.number work run c.rooted.chain (subst Has (sym c.number) has) in
-    let l = root_list script inputs lists done kept made.root c.rooted.name c.rooted.form source run all (root_done script chains done left action work c has)
-    c.rooted.root of in
+    → (p : IsOperand script (action_operand action) o) → IsSourceOf kept o.root source
+    → lists (action_operand action) ≡ Some (rows_from o.chain (source_rows source))
+acted script inputs lists done left kept action o source work run all has p of =
+    let m = chains_make script inputs lists done left (root_line o.root) o.chain (action_operand action) work run p.chain has in
+    let l = root_list script inputs lists done kept o.root p.name p.form source run all (root_there script done left (action_operand action) o work p has) p.is p.root of in
     let same : m.0 ≡ source_rows source = some_rows m.0 (source_rows source) (sym m.1 ∙ l) in
-    let At : ℕ → Type 0 = λ k. lists k ≡ Some (rows_from ops (source_rows source)) in
-    subst At c.number (m.2 ∙ ap (λ (rs : List Row). Some (rows_from ops rs)) same)
+    m.2 ∙ ap (λ (rs : List Row). Some (rows_from o.chain rs)) same
 
 text_is : (lists : Lists) (action : Action) (rows : List Row) → lists (action_operand action) ≡ Some rows → action_text lists action ≡ text_of_rows action rows
 text_is lists (print_action of) rows is = ap (λ (o : Option (List Row)). flat_map row_text (rows_in o)) is
 text_is lists (size_action of) rows is = ap (λ (o : Option (List Row)). text_of_rows (size_action of) (rows_in o)) is
 text_is lists (sum_action of c) rows is = ap (λ (o : Option (List Row)). text_of_rows (sum_action of c) (rows_in o)) is
 
-not_many : (lists : Lists) (action : Action) (rows : List Row) → lists (action_operand action) ≡ Some rows → length rows ≤ most_rows → block_of_action lists action ≡ None
+not_many : (lists : Lists) (action : Action) (rows : List Row) → lists (action_operand action) ≡ Some rows → length rows ≤ most_rows → failure_of_action lists action ≡ None
 not_many lists action rows is few =
     let Rows : List Row → Type 0 = λ rs. cond (ltb most_rows (length rs)) (Some too_many_rows) None ≡ None in
     let at : rows ≡ rows_in (lists (action_operand action)) = sym (ap rows_in is) in
@@ -136,9 +141,9 @@ not_many lists action rows is few =
       | false ↦ λ e. refl
     ] refl)
 
-many_block : (lists : Lists) (action : Action) (rows : List Row) → lists (action_operand action) ≡ Some rows → most_rows < length rows
-    → block_of_action lists action ≡ Some too_many_rows
-many_block lists action rows is many =
+many_fails : (lists : Lists) (action : Action) (rows : List Row) → lists (action_operand action) ≡ Some rows → most_rows < length rows
+    → failure_of_action lists action ≡ Some too_many_rows
+many_fails lists action rows is many =
     let Rows : List Row → Type 0 = λ rs. cond (ltb most_rows (length rs)) (Some too_many_rows) None ≡ Some too_many_rows in
     let at : rows ≡ rows_in (lists (action_operand action)) = sym (ap rows_in is) in
     subst Rows at (elim (ltb most_rows (length rows)) as (λ t. ltb most_rows (length rows) ≡ t → cond t (Some too_many_rows) None ≡ Some too_many_rows) [
@@ -146,158 +151,141 @@ many_block lists action rows is many =
       | false ↦ λ e. (let few = ltb-false most_rows (length rows) e in absurd (omega (arith, few, many)))
     ] refl)
 
-took_since : (taken now : Option (List ℕ)) (start texts text : List ℕ) → taken ≡ Some (start ++ texts) → TookAll taken text now → now ≡ Some (start ++ (texts ++ text))
-took_since taken now start texts text is took =
+took_since : (begun taken now : Option (List ℕ)) (texts text : List ℕ) → TookAll begun texts taken → TookAll taken text now → TookAll begun (texts ++ text) now
+took_since None taken now texts text before took = tt
+took_since (Some start) taken now texts text before took =
     let Took : Option (List ℕ) → Type 0 = λ o. TookAll o text now in
-    subst Took is took ∙ ap Some (append_assoc start texts text)
+    subst Took before took ∙ ap Some (append_assoc start texts text)
 
-pub act_goes_on : (script : Script) (n : ℕ) (action : Action) (chains : List Made) (kept : List Kept) (taken now : Option (List ℕ)) (source : Source)
-    → statement_at script n ≡ Some (act action) → (s : IsServed script chains kept action) → IsSourceOf s.chain.rooted.form kept s.chain.made.root source
-    → length (rows_from (ops_of s.chain.made.ops.items) (source_rows source)) ≤ most_rows
-    → TookAll taken (text_of_rows action (rows_from (ops_of s.chain.made.ops.items) (source_rows source))) now
-    → (holds : Option Holdings) (fixed : Bool) → GoesOn script holds fixed (do_action n ∷ []) kept taken kept now
-act_goes_on script n action chains kept taken now source is s of few took = λ holds fixed inputs start done left tells work at.
-    let has = operand_has script (lines_among done) n action work.order.0 is in
-    let rows = rows_from (ops_of s.chain.made.ops.items) (source_rows source) in
-    let p = acted script inputs at.lists done (do_action n ∷ left) chains kept action source work at.run at.are has s of in
-    let g = action_goes_on script inputs at.lists done left n action work at.run is (not_many at.lists action rows p few) in
+-- a prefix of the texts was taken
+record IsCut (begun now : Option (List ℕ)) (texts text : List ℕ) : Type 0 where
+  took : List ℕ
+  rest : List ℕ
+  since : TookAll begun took now
+  parts : texts ++ text ≡ took ++ rest
+
+took_cut : (begun taken now : Option (List ℕ)) (texts text : List ℕ) → TookAll begun texts taken → TookPrefix taken text now → IsCut begun now texts text
+took_cut None taken now texts text before took = record { took = []; rest = texts ++ text; since = tt; parts = refl }
+took_cut (Some start) taken now texts text before took =
+    let Took : Option (List ℕ) → Type 0 = λ o. TookPrefix o text now in
+    let p = subst Took before took in
+    record {
+      took = texts ++ p.0;
+      rest = p.1;
+      since = p.3 ∙ ap Some (append_assoc start texts p.0);
+      parts = ap (λ (t : List ℕ). texts ++ t) p.2 ∙ sym (append_assoc texts p.0 p.1);
+    }
+
+-- an action on its operand and the rows of a source
+pub record IsActing (script : Script) (n : ℕ) (action : Action) (kept : List StoredRows) (o : Operand) (source : Source) : Type 0 where
+  pub is : statement_at script n ≡ Some (act action)
+  pub operand : IsOperand script (action_operand action) o
+  pub of : IsSourceOf kept o.root source
+
+pub act_goes_on : (script : Script) (n : ℕ) (action : Action) (kept : List StoredRows) (o : Operand) (source : Source) (taken now : Option (List ℕ)) → IsActing script n action kept o source
+    → length (rows_from o.chain (source_rows source)) ≤ most_rows → TookAll taken (text_of_rows action (rows_from o.chain (source_rows source))) now
+    → (holds : Option Holdings) (fixed : Bool) → GoesOn script holds fixed (do_action n) kept taken kept now
+act_goes_on script n action kept o source taken now a few took = λ holds fixed inputs begun done left tells work at.
+    let has = operand_has script (lines_among done) n action work.order.0 a.is in
+    let rows = rows_from o.chain (source_rows source) in
+    let p = acted script inputs at.lists done (do_action n ∷ left) kept action o source work at.run at.are has a.operand a.of in
+    let g = action_goes_on script inputs at.lists done left n action work at.run a.is (not_many at.lists action rows p few) in
     let Took : List ℕ → Type 0 = λ t. TookAll taken t now in
+    let Since : List ℕ → Type 0 = λ t. TookAll begun t now in
     record {
       lists = at.lists;
       run = g.0;
       are = at.are;
-      since = took_since taken now start (texts_among script at.lists done) (action_text at.lists action) at.since (subst Took (sym (text_is at.lists action rows p)) took)
-          ∙ ap (λ (t : List ℕ). Some (start ++ t)) (sym g.1);
+      since = subst Since (sym g.1) (took_since begun taken now (texts_among script at.lists done) (action_text at.lists action) at.since
+          (subst Took (sym (text_is at.lists action rows p)) took));
     }
 
 -- a write that failed
-write_stops : (script : Script) (n : ℕ) (action : Action) (chains : List Made) (kept : List Kept) (taken now : Option (List ℕ)) (source : Source) (f : TopFault)
-    → statement_at script n ≡ Some (act action) → (s : IsServed script chains kept action) → IsSourceOf s.chain.rooted.form kept s.chain.made.root source
-    → length (rows_from (ops_of s.chain.made.ops.items) (source_rows source)) ≤ most_rows
-    → TookFront taken (text_of_rows action (rows_from (ops_of s.chain.made.ops.items) (source_rows source))) now → IsDeviceFault f
-    → (holds : Option Holdings) (fixed : Bool) → Stops script holds fixed (do_action n ∷ []) kept taken f now
-write_stops script n action chains kept taken now source f is s of few took kind = λ holds fixed inputs start done left tells work at.
-    let has = operand_has script (lines_among done) n action work.order.0 is in
-    let rows = rows_from (ops_of s.chain.made.ops.items) (source_rows source) in
-    let p = acted script inputs at.lists done (do_action n ∷ left) chains kept action source work at.run at.are has s of in
-    let g = action_goes_on script inputs at.lists done left n action work at.run is (not_many at.lists action rows p few) in
+write_stops : (script : Script) (n count : ℕ) (action : Action) (kept : List StoredRows) (o : Operand) (source : Source) (taken now : Option (List ℕ)) → IsActing script n action kept o source
+    → length (rows_from o.chain (source_rows source)) ≤ most_rows → TookPrefix taken (text_of_rows action (rows_from o.chain (source_rows source))) now
+    → (holds : Option Holdings) (fixed : Bool) → Stops script holds fixed (do_action n) kept taken (errors.Write count) now
+write_stops script n count action kept o source taken now a few took = λ holds fixed inputs begun done left tells work at.
+    let has = operand_has script (lines_among done) n action work.order.0 a.is in
+    let rows = rows_from o.chain (source_rows source) in
+    let p = acted script inputs at.lists done (do_action n ∷ left) kept action o source work at.run at.are has a.operand a.of in
+    let g = action_goes_on script inputs at.lists done left n action work at.run a.is (not_many at.lists action rows p few) in
     let w = goes_on script done left (do_action n) work in
     let r = runs_are_runs script inputs at.lists (done ++ do_action n ∷ []) left w g.0 in
     let texts = texts_among script at.lists done in
-    let Took : Option (List ℕ) → Type 0 = λ o. TookFront o (text_of_rows action rows) now in
-    let front = subst Took at.since took in
+    let Took : List ℕ → Type 0 = λ t. TookPrefix taken t now in
+    let cut = took_cut begun taken now texts (action_text at.lists action) at.since (subst Took (sym (text_is at.lists action rows p)) took) in
     record {
-      took = texts ++ front.0;
-      since = front.3 ∙ ap Some (append_assoc start texts front.0);
-      end = device_end script inputs f (texts ++ front.0) kind (record {
+      took = cut.took;
+      since = cut.since;
+      end = record {
         count = length (done ++ do_action n ∷ []);
         all = texts ++ action_text at.lists action;
         done = record { lists = at.lists; run = r.0; texts = sym (r.1 ∙ g.1) };
-        rest = front.1;
-        parts = ap (λ (t : List ℕ). texts ++ t) (text_is at.lists action rows p ∙ front.2) ∙ sym (append_assoc texts front.0 front.1);
-      });
+        rest = cut.rest;
+        parts = cut.parts;
+      };
     }
 
 -- too many rows
-many_stops : (script : Script) (n k : ℕ) (action : Action) (chains : List Made) (kept : List Kept) (taken : Option (List ℕ)) (source : Source)
-    → statement_at script n ≡ Some (act action) → (s : IsServed script chains kept action) → IsSourceOf s.chain.rooted.form kept s.chain.made.root source
-    → k ≡ n → most_rows < length (rows_from (ops_of s.chain.made.ops.items) (source_rows source))
-    → (holds : Option Holdings) (fixed : Bool) → Stops script holds fixed (do_action n ∷ []) kept taken (faults.TooManyRows k) taken
-many_stops script n k action chains kept taken source is s of same many = λ holds fixed inputs start done left tells work at.
-    let has = operand_has script (lines_among done) n action work.order.0 is in
-    let rows = rows_from (ops_of s.chain.made.ops.items) (source_rows source) in
-    let p = acted script inputs at.lists done (do_action n ∷ left) chains kept action source work at.run at.are has s of in
+many_stops : (script : Script) (n : ℕ) (action : Action) (kept : List StoredRows) (o : Operand) (source : Source) (taken : Option (List ℕ)) → IsActing script n action kept o source
+    → most_rows < length (rows_from o.chain (source_rows source))
+    → (holds : Option Holdings) (fixed : Bool) → Stops script holds fixed (do_action n) kept taken (errors.TooManyRows n) taken
+many_stops script n action kept o source taken a many = λ holds fixed inputs begun done left tells work at.
+    let has = operand_has script (lines_among done) n action work.order.0 a.is in
+    let rows = rows_from o.chain (source_rows source) in
+    let p = acted script inputs at.lists done (do_action n ∷ left) kept action o source work at.run at.are has a.operand a.of in
     let r = runs_are_runs script inputs at.lists done (do_action n ∷ left) work at.run in
-    let texts = texts_among script at.lists done in
-    let Many : ℕ → Type 0 = λ m. IsTooMany script inputs m texts in
     record {
-      took = texts;
+      took = texts_among script at.lists done;
       since = at.since;
-      end = subst Many (sym same) (record {
+      end = record {
         count = length done;
         done = record { lists = at.lists; run = r.0; texts = sym r.1 };
         left = left;
         work = r.2;
-        blocked = ap (block_of_statement inputs at.lists) is ∙ many_block at.lists action rows p many;
-      });
+        fails = ap (failure_of_statement inputs at.lists) a.is ∙ many_fails at.lists action rows p many;
+      };
     }
 
-pub act_stops : (script : Script) (n : ℕ) (action : Action) (chains : List Made) (kept : List Kept) (taken now : Option (List ℕ)) (source : Source) (f : TopFault)
-    → statement_at script n ≡ Some (act action) → (s : IsServed script chains kept action) → IsSourceOf s.chain.rooted.form kept s.chain.made.root source
-    → IsActFault n (rows_from (ops_of s.chain.made.ops.items) (source_rows source))
-    (text_of_rows action (rows_from (ops_of s.chain.made.ops.items) (source_rows source))) f taken now
-    → (holds : Option Holdings) (fixed : Bool) → Stops script holds fixed (do_action n ∷ []) kept taken f now
-act_stops script n action chains kept taken now source (faults.TooManyRows k) is s of h = λ holds fixed.
-    let Stop : Option (List ℕ) → Type 0 = λ o. Stops script holds fixed (do_action n ∷ []) kept taken (faults.TooManyRows k) o in
-    subst Stop (sym h.2) (many_stops script n k action chains kept taken source is s of h.0 h.1 holds fixed)
-act_stops script n action chains kept taken now source (faults.WriteFault count) is s of h =
-    write_stops script n action chains kept taken now source (faults.WriteFault count) is s of h.0 h.1 tt
-act_stops script n action chains kept taken now source faults.NoMemory is s of h = λ holds fixed.
-    let Stop : Option (List ℕ) → Type 0 = λ o. Stops script holds fixed (do_action n ∷ []) kept taken faults.NoMemory o in
-    subst Stop (sym h) (stops_here script holds fixed (do_action n ∷ []) kept taken faults.NoMemory tt)
-act_stops script n action chains kept taken now source faults.Usage is s of h = absurd h
-act_stops script n action chains kept taken now source (faults.Script k cause) is s of h = absurd h
-act_stops script n action chains kept taken now source (faults.Missing name) is s of h = absurd h
-act_stops script n action chains kept taken now source (faults.LineTooLong name k) is s of h = absurd h
-act_stops script n action chains kept taken now source (faults.InputTooLong name) is s of h = absurd h
-act_stops script n action chains kept taken now source (faults.ReadFault count) is s of h = absurd h
+pub act_stops : (script : Script) (n : ℕ) (action : Action) (kept : List StoredRows) (o : Operand) (source : Source) (taken now : Option (List ℕ)) (why : ActErr) → IsActing script n action kept o source
+    → Refuses (rows_from o.chain (source_rows source)) (text_of_rows action (rows_from o.chain (source_rows source))) why taken now
+    → (holds : Option Holdings) (fixed : Bool) → Stops script holds fixed (do_action n) kept taken (act_error n why) now
+act_stops script n action kept o source taken now acts.TooManyRows a h = λ holds fixed.
+    let Stop : Option (List ℕ) → Type 0 = λ t. Stops script holds fixed (do_action n) kept taken (errors.TooManyRows n) t in
+    subst Stop (sym h.1) (many_stops script n action kept o source taken a h.0 holds fixed)
+act_stops script n action kept o source taken now (acts.Write count) a h = write_stops script n count action kept o source taken now a h.0 h.1
+act_stops script n action kept o source taken now acts.NoMemory a h = λ holds fixed.
+    let Stop : Option (List ℕ) → Type 0 = λ t. Stops script holds fixed (do_action n) kept taken errors.NoMemory t in
+    subst Stop (sym h) (stops_here script holds fixed (do_action n) kept taken errors.NoMemory tt)
 
--- the chain of an action's line and its source were found, and this is what the chain does
-pub record IsFound (script : Script) (chains : List Made) (kept : List Kept) (n : ℕ) (action : Action) (ops : List LocalOp) (source : Source) : Type 0 where
-  pub is : statement_at script n ≡ Some (act action)
-  pub serves : IsServed script chains kept action
-  pub of : IsSourceOf serves.chain.rooted.form kept serves.chain.made.root source
-  pub same : ops_of serves.chain.made.ops.items ≡ ops
+-- for the doer of an action -------------------------------------------------------------------------------------------
 
-pub found_root : (script : Script) (chains : List Made) (kept : List Kept) (n : ℕ) (action : Action) (made : Made) → IsMidway script (do_action n ∷ []) kept
-    → AreChains script chains → statement_at script n ≡ Some (act action) → find (with_number (action_operand action)) chains ≡ Some made
-    → (name : List ℕ) × (form : Form) × (statement_at script made.root ≡ Some (line name form)) × HasRoot form kept made.root
-found_root script chains kept n action made m are is found =
-    let s = served script chains kept n action m are is in
-    let Root : Made → Type 0 = λ x. (name : List ℕ) × (form : Form) × (statement_at script x.root ≡ Some (line name form)) × HasRoot form kept x.root in
-    subst Root (served_made script chains kept action made s found) (s.chain.rooted.name, s.chain.rooted.form, s.chain.rooted.root, s.root)
-
-pub found_source : (script : Script) (chains : List Made) (kept : List Kept) (n : ℕ) (action : Action) (made : Made) (ops : List LocalOp) (source : Source)
-    → IsMidway script (do_action n ∷ []) kept → AreChains script chains → statement_at script n ≡ Some (act action)
-    → find (with_number (action_operand action)) chains ≡ Some made
-    → ((name : List ℕ) (form : Form) → statement_at script made.root ≡ Some (line name form) → IsSourceOf form kept made.root source)
-    → ops_of made.ops.items ≡ ops → IsFound script chains kept n action ops source
-found_source script chains kept n action made ops source m are is found of onto =
-    let s = served script chains kept n action m are is in
-    let same = served_made script chains kept action made s found in
-    let Of : Made → Type 0 = λ x. IsSourceOf s.chain.rooted.form kept x.root source in
-    let At : Made → Type 0 = λ x. statement_at script x.root ≡ Some (line s.chain.rooted.name s.chain.rooted.form) in
+pub actable : (action : Action) (o : Operand) (kept : List StoredRows) (source : Source) (ops : List LocalOp) → IsDoable action o kept → IsSource source → IsSourceOf kept o.root source
+    → ops ≡ o.chain → IsActable action ops source
+actable action o kept source ops d readable of same =
+    let From : List Kind → Type 0 = λ ks. AreSoundOps ks o.chain o.kinds in
+    let Ops : List LocalOp → Type 0 = λ os. AreSoundOps (source_kinds source) os o.kinds in
     record {
-      is = is;
-      serves = s;
-      of = subst Of (sym same) (of s.chain.rooted.name s.chain.rooted.form (subst At same s.chain.rooted.root));
-      same = ap (λ (x : Made). ops_of x.ops.items) same ∙ onto;
+      kinds = o.kinds;
+      arrives = record { readable = readable; sound = subst Ops (sym same) (subst From (source_kinds_are kept o.root source of) d.sound) };
+      sound = d.acts;
     }
 
-pub found_sound : (script : Script) (chains : List Made) (kept : List Kept) (n : ℕ) (action : Action) (ops : List LocalOp) (source : Source)
-    → IsFound script chains kept n action ops source → (kinds : List Kind) × AreSoundOps (source_kinds source) ops kinds × IsSoundAction kinds action
-found_sound script chains kept n action ops source f =
-    let c = f.serves.chain in
-    let kinds = source_sound c.rooted.form kept c.made.root source f.of in
-    let From : List Kind → Type 0 = λ ks. AreSoundOps ks ops c.kinds in
-    let Through : List LocalOp → Type 0 = λ os. AreSoundOps (root_kinds c.rooted.form) os c.kinds in
-    (c.kinds, subst From kinds (subst Through f.same c.rooted.makes), c.sound)
+pub acting_on : (n : ℕ) (action : Action) (kept : List StoredRows) (o : Operand) (source : Source) (ops : List LocalOp) (taken now : Option (List ℕ)) → IsSourceOf kept o.root source → ops ≡ o.chain
+    → length (rows_from ops (source_rows source)) ≤ most_rows → TookAll taken (text_of_rows action (rows_from ops (source_rows source))) now
+    → (script : Script) (holds : Option Holdings) (fixed : Bool) → statement_at script n ≡ Some (act action) → IsOperand script (action_operand action) o
+    → GoesOn script holds fixed (do_action n) kept taken kept now
+acting_on n action kept o source ops taken now of same few took = λ script holds fixed is p.
+    let Few : List LocalOp → Type 0 = λ os. length (rows_from os (source_rows source)) ≤ most_rows in
+    let Took : List LocalOp → Type 0 = λ os. TookAll taken (text_of_rows action (rows_from os (source_rows source))) now in
+    act_goes_on script n action kept o source taken now (record { is = is; operand = p; of = of }) (subst Few same few) (subst Took same took) holds fixed
 
-pub found_goes_on : (script : Script) (chains : List Made) (kept : List Kept) (n : ℕ) (action : Action) (ops : List LocalOp) (source : Source) (taken now : Option (List ℕ))
-    → IsFound script chains kept n action ops source → TookAll taken (text_of_rows action (rows_from ops (source_rows source))) now
-    → length (rows_from ops (source_rows source)) ≤ most_rows
-    → (holds : Option Holdings) (fixed : Bool) → GoesOn script holds fixed (do_action n ∷ []) kept taken kept now
-found_goes_on script chains kept n action ops source taken now f took few =
-    let rows = source_rows source in
-    let Took : List LocalOp → Type 0 = λ os. TookAll taken (text_of_rows action (rows_from os rows)) now in
-    let Few : List LocalOp → Type 0 = λ os. length (rows_from os rows) ≤ most_rows in
-    act_goes_on script n action chains kept taken now source f.is f.serves f.of (subst Few (sym f.same) few) (subst Took (sym f.same) took)
-
-pub found_stops : (script : Script) (chains : List Made) (kept : List Kept) (n : ℕ) (action : Action) (ops : List LocalOp) (source : Source) (taken now : Option (List ℕ))
-    → IsFound script chains kept n action ops source → (f : TopFault)
-    → IsActFault n (rows_from ops (source_rows source)) (text_of_rows action (rows_from ops (source_rows source))) f taken now
-    → (holds : Option Holdings) (fixed : Bool) → Stops script holds fixed (do_action n ∷ []) kept taken f now
-found_stops script chains kept n action ops source taken now found f h =
-    let rows = source_rows source in
-    let Fault : List LocalOp → Type 0 = λ os. IsActFault n (rows_from os rows) (text_of_rows action (rows_from os rows)) f taken now in
-    act_stops script n action chains kept taken now source f found.is found.serves found.of (subst Fault (sym found.same) h)
+pub acting_stops : (n : ℕ) (action : Action) (kept : List StoredRows) (o : Operand) (source : Source) (ops : List LocalOp) (taken now : Option (List ℕ)) (why : ActErr) (e : RunErr)
+    → IsSourceOf kept o.root source → ops ≡ o.chain → Refuses (rows_from ops (source_rows source)) (text_of_rows action (rows_from ops (source_rows source))) why taken now
+    → e ≡ act_error n why
+    → (script : Script) (holds : Option Holdings) (fixed : Bool) → statement_at script n ≡ Some (act action) → IsOperand script (action_operand action) o
+    → Stops script holds fixed (do_action n) kept taken e now
+acting_stops n action kept o source ops taken now why e of same refuses error = λ script holds fixed is p.
+    let Why : List LocalOp → Type 0 = λ os. Refuses (rows_from os (source_rows source)) (text_of_rows action (rows_from os (source_rows source))) why taken now in
+    let Stop : RunErr → Type 0 = λ x. Stops script holds fixed (do_action n) kept taken x now in
+    subst Stop (sym error) (act_stops script n action kept o source taken now why (record { is = is; operand = p; of = of }) (subst Why same refuses) holds fixed)

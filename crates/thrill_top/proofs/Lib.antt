@@ -1,7 +1,6 @@
-pub mod FrontLemmas
-pub mod MakingLemmas
 pub mod ReadLemmas
 pub mod StepLemmas
-pub mod EndLemmas
-pub mod CountLemmas
 pub mod ActionLemmas
+pub mod TaskLemmas
+pub mod StageLemmas
+pub mod EndLemmas

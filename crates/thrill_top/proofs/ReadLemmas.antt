@@ -3,53 +3,54 @@ use Rattle.std.proofs.Common.{◌≡◌, ℕ, ◌+◌, ◌-◌, ◌<◌, ◌≤�
 use Rattle.std.proofs.lemmas.Bool.{ltb-true, ltb-false, lt-ltb, true≢false}
 use Rattle.std.proofs.lemmas.List.{take_all}
 use Rattle.std.proofs.Math.Seq.{take-append-add}
-use Rattle.dia_defs.specs.declared.cause.Cause.TheVariants.{ScriptLong}
-use Rattle.dia_defs.specs.Reading.{reading_of, script_limit, script_lines_limit}
-use Rattle.dia_defs.specs.Lists.{Inputs}
-use Rattle.dia_edge.specs.Shelves.{Holdings, GivesFront, IsOpened, IsAtEnd}
+use Rattle.row_defs.specs.declared.cause.Cause.TheVariants.{ScriptLong}
+use Rattle.script_defs.specs.Limits.{script_limit, script_lines_limit}
+use Rattle.script_defs.specs.Reading.{reading_of}
+use Rattle.row_defs.specs.Inputs.{Inputs}
+use Rattle.dia_edge.specs.Shelves.{Holdings, GivesPrefix, IsOpened, IsAtEnd}
 
 -- one piece more
-pub gives_more : (all left now : Option (List ℕ)) (seen piece : List ℕ) → GivesFront all seen left → GivesFront left piece now → GivesFront all (seen ++ piece) now
+pub gives_more : (all left now : Option (List ℕ)) (seen piece : List ℕ) → GivesPrefix all seen left → GivesPrefix left piece now → GivesPrefix all (seen ++ piece) now
 gives_more None left now seen piece p q = tt
 gives_more (Some bytes) left now seen piece p q =
-    let Gives : Option (List ℕ) → Type 0 = λ o. GivesFront o piece now in
+    let Gives : Option (List ℕ) → Type 0 = λ o. GivesPrefix o piece now in
     let r = subst Gives p.2 q in
     (r.0, p.1 ∙ ap (λ (xs : List ℕ). seen ++ xs) r.1 ∙ sym (append_assoc seen piece r.0), r.2)
 
-take_front : (xs ys : List ℕ) → take (length xs) (xs ++ ys) ≡ xs
-take_front [] ys = refl
-take_front (x ∷ xs) ys = ap (λ (zs : List ℕ). x ∷ zs) (take_front xs ys)
+take_prefix : (xs ys : List ℕ) → take (length xs) (xs ++ ys) ≡ xs
+take_prefix [] ys = refl
+take_prefix (x ∷ xs) ys = ap (λ (zs : List ℕ). x ∷ zs) (take_prefix xs ys)
 
 take-append-past : (n : ℕ) (xs ys : List ℕ) → length xs ≤ n → take n (xs ++ ys) ≡ xs ++ take (n - length xs) ys
 take-append-past n xs ys low =
     let parts : n ≡ length xs + (n - length xs) = omega arith in
     ap (λ (m : ℕ). take m (xs ++ ys)) parts ∙ take-append-add xs ys (n - length xs)
 
--- the front that a buffer is of its memory
-pub whole_front : (xs ys : List ℕ) (n : ℕ) → n ≡ length xs → take n (xs ++ ys) ≡ xs
-whole_front xs ys n long = ap (λ (k : ℕ). take k (xs ++ ys)) long ∙ take_front xs ys
+-- the prefix that a buffer is of its memory
+pub whole_prefix : (xs ys : List ℕ) (n : ℕ) → n ≡ length xs → take n (xs ++ ys) ≡ xs
+whole_prefix xs ys n long = ap (λ (k : ℕ). take k (xs ++ ys)) long ∙ take_prefix xs ys
 
 -- what is in the buffer behind a read
-pub buffer_more : (all left now : Option (List ℕ)) (buffer front room : List ℕ) (total n : ℕ) → GivesFront all (take total buffer) left → front ≡ take total buffer
-    → length front ≡ total → GivesFront left (take n room) now → GivesFront all (take (total + n) (front ++ room)) now
-buffer_more all left now buffer front room total n before is long h =
-    let Gives : List ℕ → Type 0 = λ xs. GivesFront all xs now in
-    let Before : List ℕ → Type 0 = λ xs. GivesFront all xs left in
-    let behind : total + n - length front ≡ n = omega (arith, long) in
-    let whole : take (total + n) (front ++ room) ≡ front ++ take n room =
-    take-append-past (total + n) front room (omega (arith, long)) ∙ ap (λ (k : ℕ). front ++ take k room) behind in
-    subst Gives (sym whole) (gives_more all left now front (take n room) (subst Before (sym is) before) h)
+pub buffer_more : (all left now : Option (List ℕ)) (buffer prefix room : List ℕ) (total n : ℕ) → GivesPrefix all (take total buffer) left → prefix ≡ take total buffer
+    → length prefix ≡ total → GivesPrefix left (take n room) now → GivesPrefix all (take (total + n) (prefix ++ room)) now
+buffer_more all left now buffer prefix room total n before is long h =
+    let Gives : List ℕ → Type 0 = λ xs. GivesPrefix all xs now in
+    let Before : List ℕ → Type 0 = λ xs. GivesPrefix all xs left in
+    let behind : total + n - length prefix ≡ n = omega (arith, long) in
+    let whole : take (total + n) (prefix ++ room) ≡ prefix ++ take n room =
+    take-append-past (total + n) prefix room (omega (arith, long)) ∙ ap (λ (k : ℕ). prefix ++ take k room) behind in
+    subst Gives (sym whole) (gives_more all left now prefix (take n room) (subst Before (sym is) before) h)
 
 -- the buffer is full
-pub buffer_full : (all left : Option (List ℕ)) (buffer : List ℕ) (total : ℕ) → GivesFront all (take total buffer) left → length buffer ≤ total
+pub buffer_full : (all left : Option (List ℕ)) (buffer : List ℕ) (total : ℕ) → GivesPrefix all (take total buffer) left → length buffer ≤ total
     → IfSome all (λ bytes. take total buffer ≡ take (length buffer) bytes)
 buffer_full None left buffer total h full = tt
 buffer_full (Some bytes) left buffer total h full =
     let whole = take_all total buffer full in
-    whole ∙ sym (ap (take (length buffer)) (h.1 ∙ ap (λ (xs : List ℕ). xs ++ h.0) whole) ∙ take_front buffer h.0)
+    whole ∙ sym (ap (take (length buffer)) (h.1 ∙ ap (λ (xs : List ℕ). xs ++ h.0) whole) ∙ take_prefix buffer h.0)
 
 -- nothing is left
-pub buffer_all : (all left : Option (List ℕ)) (buffer : List ℕ) (total : ℕ) → GivesFront all (take total buffer) left → total ≤ length buffer → IsAtEnd left
+pub buffer_all : (all left : Option (List ℕ)) (buffer : List ℕ) (total : ℕ) → GivesPrefix all (take total buffer) left → total ≤ length buffer → IsAtEnd left
     → IfSome all (λ bytes. take total buffer ≡ take (length buffer) bytes)
 buffer_all None left buffer total h within end = tt
 buffer_all (Some bytes) left buffer total h within end =

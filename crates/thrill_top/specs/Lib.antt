@@ -1,6 +1,4 @@
-pub mod Promise
-pub mod Faults
-pub mod Words
+pub mod Errors
 pub mod Ends
-pub mod Making
+pub mod Promise
 pub mod Steps

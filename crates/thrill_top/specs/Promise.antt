@@ -1,14 +1,16 @@
--- What a call promises, by how it ended. The shelf tells what it holds and is fixed, and `out` tells what it took.
+-- What a call promises, by how it ended. The shelf tells what it holds and is fixed; of an `out` that tells, what it took.
 use Rattle.std.specs.Prelude.{◌≡◌, ◌⊎◌, ℕ, Bool, true, List, [], ◌∷◌, ◌++◌, All, length, drop, Option, None, Some, Result, Ok, Err}
-use Rattle.dia_defs.specs.declared.cause.Cause.{Cause}
-use Rattle.dia_defs.specs.Scripts.{lines_form, line, Script, statement_at}
-use Rattle.dia_defs.specs.Reading.{ReadsAs, IsRefused}
-use Rattle.dia_defs.specs.Lists.{Inputs, Lists, Block, missing, line_too_long, input_too_long, too_many_rows}
-use Rattle.dia_defs.specs.Work.{Item, do_line, do_action, work_of}
-use Rattle.dia_defs.specs.Runs.{IsRun, block_of, run_texts}
+use Rattle.row_defs.specs.declared.cause.Cause.{Cause}
+use Rattle.script_defs.specs.Scripts.{lines_form, line, Script, statement_at}
+use Rattle.script_defs.specs.Reading.{ReadsAs, IsRefused}
+use Rattle.row_defs.specs.Inputs.{Inputs, InputFailure, missing, line_too_long, input_too_long}
+use Rattle.script_defs.specs.Lists.{Lists, input_failure, too_many_rows}
+use Rattle.script_defs.specs.Work.{Item, do_line, do_action, work_of}
+use Rattle.script_defs.specs.Runs.{IsRun, failure_of, run_texts}
 use Rattle.dia_edge.specs.Shelves.{Holdings}
-use Rattle.thrill_top.specs.declared.fault.TopFault.{TopFault}
-use Rattle.thrill_top.specs.declared.fault.TopFault.TheVariants as faults
+use Rattle.dia_edge.specs.Sinks.{TookAll}
+use Rattle.job_words.specs.declared.fault.TopFault.{TopFault}
+use Rattle.job_words.specs.declared.fault.TopFault.TheVariants as faults
 
 -- a fixed shelf that tells holds these inputs
 abbrev pub TellsInputs : Option Holdings → Bool → Inputs → Type 0
@@ -22,7 +24,7 @@ pub record IsDone (script : Script) (inputs : Inputs) (n : ℕ) (took : List ℕ
   pub texts : took ≡ run_texts script lists n
 
 -- the same, and the next item can't be done, for this cause; it is the line of the input with this name
-pub record IsStopped (script : Script) (inputs : Inputs) (name : List ℕ) (cause : Block) (took : List ℕ) : Type 0 where
+pub record IsStopped (script : Script) (inputs : Inputs) (name : List ℕ) (cause : InputFailure) (took : List ℕ) : Type 0 where
   pub count : ℕ
   pub done : IsDone script inputs count took
   pub next : ℕ
@@ -30,7 +32,7 @@ pub record IsStopped (script : Script) (inputs : Inputs) (name : List ℕ) (caus
   pub work : drop count (work_of script) ≡ do_line next ∷ left
   pub defined : List ℕ
   pub is : statement_at script next ≡ Some (line defined (lines_form name))
-  pub blocked : block_of script inputs done.lists (do_line next) ≡ Some cause
+  pub fails : failure_of script inputs done.lists (do_line next) ≡ Some (input_failure cause)
 
 -- the same, and the next item is the action on this line, at which more rows arrive than may
 pub record IsTooMany (script : Script) (inputs : Inputs) (n : ℕ) (took : List ℕ) : Type 0 where
@@ -38,9 +40,9 @@ pub record IsTooMany (script : Script) (inputs : Inputs) (n : ℕ) (took : List 
   pub done : IsDone script inputs count took
   pub left : List Item
   pub work : drop count (work_of script) ≡ do_action n ∷ left
-  pub blocked : block_of script inputs done.lists (do_action n) ≡ Some too_many_rows
+  pub fails : failure_of script inputs done.lists (do_action n) ≡ Some too_many_rows
 
--- these bytes are a front of the texts of some first items
+-- these bytes are a prefix of the texts of some first items
 pub record IsCutOff (script : Script) (inputs : Inputs) (took : List ℕ) : Type 0 where
   pub count : ℕ
   pub all : List ℕ
@@ -86,15 +88,15 @@ CallEnd inputs name (Some (faults.ReadFault count)) took = (took ≡ []) ⊎ IsA
 CallEnd inputs name (Some faults.NoMemory) took = (took ≡ []) ⊎ IsAccepted inputs name (Some faults.NoMemory) took
 CallEnd inputs name fault took = IsAccepted inputs name fault took
 
--- since it began, when `out` had taken `start`
-pub record EndsRun (script : Script) (inputs : Inputs) (start : List ℕ) (fault : Option TopFault) (taken : Option (List ℕ)) : Type 0 where
+-- since it began, when `out` told `begun`
+pub record EndsRun (script : Script) (inputs : Inputs) (begun : Option (List ℕ)) (fault : Option TopFault) (taken : Option (List ℕ)) : Type 0 where
   pub took : List ℕ
-  pub since : taken ≡ Some (start ++ took)
+  pub since : TookAll begun took taken
   pub end : RunEnd script inputs fault took
 
-pub record EndsCall (inputs : Inputs) (name start : List ℕ) (fault : Option TopFault) (taken : Option (List ℕ)) : Type 0 where
+pub record EndsCall (inputs : Inputs) (name : List ℕ) (begun : Option (List ℕ)) (fault : Option TopFault) (taken : Option (List ℕ)) : Type 0 where
   pub took : List ℕ
-  pub since : taken ≡ Some (start ++ took)
+  pub since : TookAll begun took taken
   pub end : CallEnd inputs name fault took
 
 -- the fault of a call that answers none or one
@@ -110,7 +112,7 @@ IsRefusedScript inputs name n cause = (bytes : List ℕ) × (inputs name ≡ Som
 
 -- an item that is the line of an input whose bytes may be read, or anything else
 abbrev pub IsOpen : Script → Inputs → Item → Type 0
-IsOpen script inputs item = block_of script inputs (λ l. None) item ≡ None
+IsOpen script inputs item = failure_of script inputs (λ l. None) item ≡ None
 
 -- the input with this name reads as the script, and each input that it needs is there and within its limits
 pub record IsReadable (inputs : Inputs) (name : List ℕ) (script : Script) : Type 0 where
@@ -125,9 +127,14 @@ IsRefusedWith n cause fault = fault ≡ Some (faults.Script n cause)
 abbrev pub IsAbsentWith : List ℕ → Option TopFault → Type 0
 IsAbsentWith name fault = fault ≡ Some (faults.Missing name)
 
--- a fault of a device, or want of memory
+-- a fault of the shelf, or want of memory
 abbrev pub IsExcused : ℕ → Type 0
-IsExcused status = (status ≡ 8) ⊎ ((status ≡ 9) ⊎ (status ≡ 12))
+IsExcused status = (status ≡ 8) ⊎ (status ≡ 12)
+
+-- what the end of a call says of a script that is refused or isn't there; `untouched` says that `out` took nothing
+pub record TellsScript (inputs : Inputs) (name : List ℕ) (fault : Option TopFault) (status : ℕ) (untouched : Type 0) : Type 0 where
+  pub refused : (n : ℕ) (cause : Cause) → IsRefusedScript inputs name n cause → (IsRefusedWith n cause fault ⊎ IsExcused status) × untouched
+  pub absent : inputs name ≡ None → (IsAbsentWith name fault ⊎ IsExcused status) × untouched
 
 -- no action is one at which more rows arrive than may, whatever run leads to it
 abbrev pub HasNoTooMany : Script → Inputs → Type 0

@@ -1,88 +1,108 @@
--- Where a run stands, and how each item goes on from there.
-use Rattle.std.specs.Prelude.{◌≡◌, ℕ, ◌==◌, Bool, true, List, ◌++◌, length, Option, Some, IsSome, find}
+-- Where a run stands, and how each stage goes on from there.
+use Rattle.std.specs.Prelude.{◌≡◌, ℕ, ◌==◌, Bool, true, List, [], ◌∷◌, ◌++◌, map, filter, Option, Some, IsSome, find}
 use Rattle.std.specs.Option.{option_map}
-use Rattle.std.specs.List.{AllByRecursion, flat_map}
-use Rattle.dia_defs.specs.Rows.{Row}
-use Rattle.dia_defs.specs.Pieces.{line_rows}
-use Rattle.dia_defs.specs.Scripts.{Form, lines_form, generate_form, local_form, Action, print_action, size_action, sum_action, line, Script, statement_at}
-use Rattle.dia_defs.specs.Runs.{row_text, number_line, column_sum}
+use Rattle.std.specs.List.{AllByRecursion}
+use Rattle.row_defs.specs.Rows.{Row}
+use Rattle.row_defs.specs.Pieces.{line_rows}
+use Rattle.row_defs.specs.Inputs.{Inputs}
+use Rattle.row_defs.specs.declared.kind.Kind.{Kind}
+use Rattle.row_defs.specs.declared.kind.Kind.TheVariants.{Int, Text}
+use Rattle.row_defs.specs.LocalOps.{AreSoundOps}
+use Rattle.row_defs.specs.Operands.{Root, stored_root, count_root, Operand}
 use Rattle.row_feed.specs.declared.source.Source.{Source}
 use Rattle.row_feed.specs.declared.source.Source.TheVariants.{Lines, Numbers}
-use Rattle.dia_defs.specs.Lists.{Inputs, Lists}
-use Rattle.dia_defs.specs.Work.{Item, has_number}
+use Rattle.script_defs.specs.Scripts.{lines_form, line, Action, Script, statement_at}
+use Rattle.script_defs.specs.Reading.{nothing_known}
+use Rattle.script_defs.specs.Sound.{IsSound, IsSoundAction}
+use Rattle.script_defs.specs.Lists.{Lists}
+use Rattle.script_defs.specs.Work.{Item, has_number}
+use Rattle.script_defs.specs.Plans.{Stage, IsStage, item_of, is_stage}
 use Rattle.dia_edge.specs.Shelves.{Holdings}
+use Rattle.dia_edge.specs.Sinks.{TookAll}
 use Rattle.run_laws.specs.Order.{lines_among, InWork}
 use Rattle.run_laws.specs.Laws.{IsRunOf, texts_among}
-use Rattle.thrill_top.specs.declared.kept.Kept.{Kept}
-use Rattle.thrill_top.specs.declared.fault.TopFault.{TopFault}
+use Rattle.thrill_top.specs.declared.kept.StoredRows.{StoredRows}
+use Rattle.thrill_top.specs.declared.stage.RunErr.{RunErr}
+use Rattle.thrill_top.specs.Errors.{run_fault}
 use Rattle.thrill_top.specs.Promise.{TellsInputs, EndsRun}
 
 -- the rows that are kept for a line
-abbrev pub kept_at : List Kept → ℕ → Option (List Row)
-kept_at kept n = option_map (λ (k : Kept). k.rows) (find (λ (k : Kept). k.number == n) kept)
+abbrev pub kept_at : List StoredRows → ℕ → Option (List Row)
+kept_at kept n = option_map (λ (k : StoredRows). k.rows) (find (λ (k : StoredRows). k.number == n) kept)
 
-abbrev pub AreLines : Kept → Type 0
+abbrev pub AreLines : StoredRows → Type 0
 AreLines k = (bytes : List ℕ) × (k.rows ≡ line_rows bytes)
 
 -- each line of an input among the items done is kept
-pub record AreKept (script : Script) (done : List Item) (kept : List Kept) : Type 0 where
+pub record AreKept (script : Script) (done : List Item) (kept : List StoredRows) : Type 0 where
   pub there : (l : ℕ) (name input : List ℕ) → has_number (lines_among done) l ≡ true → statement_at script l ≡ Some (line name (lines_form input)) → IsSome (kept_at kept l)
   pub lines : AllByRecursion AreLines kept
 
--- the items before these are done
-pub record IsMidway (script : Script) (items : List Item) (kept : List Kept) : Type 0 where
-  pub done : List Item
-  pub left : List Item
-  pub work : InWork script done (items ++ left)
-  pub are : AreKept script done kept
+-- the rows at a root are kept, or need not be
+abbrev pub HasRows : List StoredRows → Root → Type 0
+HasRows kept (stored_root n) = IsSome (kept_at kept n)
+HasRows kept (count_root n rows) = Unit {0}
+
+-- what is kept are texts
+abbrev pub root_kinds : Root → List Kind
+root_kinds (stored_root n) = Text ∷ []
+root_kinds (count_root n rows) = Int ∷ []
+
+-- the source has the rows at the root
+abbrev pub IsSourceOf : List StoredRows → Root → Source → Type 0
+IsSourceOf kept (stored_root n) (Lines rows) = kept_at kept n ≡ Some rows.now
+IsSourceOf kept (count_root n count) (Numbers m) = m ≡ count
+IsSourceOf kept _ source = ⊥
 
 -- what is kept for a line is its list
-abbrev pub IsListed : Lists → Kept → Type 0
+abbrev pub IsListed : Lists → StoredRows → Type 0
 IsListed lists k = lists k.number ≡ Some k.rows
 
--- these items are a run, and since `out` had taken `start` it took their texts
-pub record IsAt (script : Script) (inputs : Inputs) (start : List ℕ) (done : List Item) (kept : List Kept) (taken : Option (List ℕ)) : Type 0 where
+-- these items are a run, and since `out` told `begun` it took their texts
+pub record IsAt (script : Script) (inputs : Inputs) (begun : Option (List ℕ)) (done : List Item) (kept : List StoredRows) (taken : Option (List ℕ)) : Type 0 where
   pub lists : Lists
   pub run : IsRunOf script inputs lists done
   pub are : AllByRecursion (IsListed lists) kept
-  pub since : taken ≡ Some (start ++ texts_among script lists done)
+  pub since : TookAll begun (texts_among script lists done) taken
 
--- wherever a run stood before these items, it stands behind them
-abbrev pub GoesOn : Script → Option Holdings → Bool → List Item → List Kept → Option (List ℕ) → List Kept → Option (List ℕ) → Type 0
-GoesOn script holds fixed items kept taken kept_now taken_now =
-    (inputs : Inputs) (start : List ℕ) (done left : List Item) → TellsInputs holds fixed inputs → InWork script done (items ++ left)
-    → IsAt script inputs start done kept taken → IsAt script inputs start (done ++ items) kept_now taken_now
+-- wherever a run stood before this item, it stands behind it
+abbrev pub GoesOn : Script → Option Holdings → Bool → Item → List StoredRows → Option (List ℕ) → List StoredRows → Option (List ℕ) → Type 0
+GoesOn script holds fixed item kept taken kept_now taken_now =
+    (inputs : Inputs) (begun : Option (List ℕ)) (done left : List Item) → TellsInputs holds fixed inputs → InWork script done (item ∷ left)
+    → IsAt script inputs begun done kept taken → IsAt script inputs begun (done ++ item ∷ []) kept_now taken_now
 
--- wherever a run stood before these items, it ends with the fault
-abbrev pub Stops : Script → Option Holdings → Bool → List Item → List Kept → Option (List ℕ) → TopFault → Option (List ℕ) → Type 0
-Stops script holds fixed items kept taken fault taken_now =
-    (inputs : Inputs) (start : List ℕ) (done left : List Item) → TellsInputs holds fixed inputs → InWork script done (items ++ left)
-    → IsAt script inputs start done kept taken → EndsRun script inputs start (Some fault) taken_now
+-- wherever a run stood before this item, it ends with the error
+abbrev pub Stops : Script → Option Holdings → Bool → Item → List StoredRows → Option (List ℕ) → RunErr → Option (List ℕ) → Type 0
+Stops script holds fixed item kept taken e taken_now =
+    (inputs : Inputs) (begun : Option (List ℕ)) (done left : List Item) → TellsInputs holds fixed inputs → InWork script done (item ∷ left)
+    → IsAt script inputs begun done kept taken → EndsRun script inputs begun (Some (run_fault e)) taken_now
 
 -- and what is kept
-abbrev pub KeepsOn : Script → List Item → List Kept → List Kept → Type 0
-KeepsOn script items kept kept_now =
-    (done left : List Item) → InWork script done (items ++ left) → AreKept script done kept → AreKept script (done ++ items) kept_now
+abbrev pub KeepsOn : Script → Item → List StoredRows → List StoredRows → Type 0
+KeepsOn script item kept kept_now =
+    (done left : List Item) → InWork script done (item ∷ left) → AreKept script done kept → AreKept script (done ++ item ∷ []) kept_now
 
--- a line that isn't those of an input
-abbrev pub IsNoInput : Form → Type 0
-IsNoInput (lines_form input) = ⊥
-IsNoInput _ = Unit {0}
+-- an action can be done on an operand: the rows at its root are kept, and the local lines and the action take them
+pub record IsDoable (action : Action) (o : Operand) (kept : List StoredRows) : Type 0 where
+  pub rows : HasRows kept o.root
+  pub lines : AllByRecursion AreLines kept
+  pub sound : AreSoundOps (root_kinds o.root) o.chain o.kinds
+  pub acts : IsSoundAction o.kinds action
 
--- a line that names none: its rows are kept, or it needs none that are
-abbrev pub HasRoot : Form → List Kept → ℕ → Type 0
-HasRoot (lines_form input) kept root = IsSome (kept_at kept root)
-HasRoot (generate_form count) kept root = Unit {0}
-HasRoot (local_form of op) kept root = ⊥
+-- a stage can be done: of the work of an accepted script the items before it are done, and what they keep is kept
+pub record CanDo (script : Script) (stage : Stage) (kept : List StoredRows) : Type 0 where
+  pub sound : IsSound nothing_known 1 script
+  pub is : IsStage script stage
+  pub done : List Item
+  pub left : List Item
+  pub work : InWork script done (item_of stage.number stage.statement ∷ left)
+  pub are : AreKept script done kept
 
--- the source is such a line's
-abbrev pub IsSourceOf : Form → List Kept → ℕ → Source → Type 0
-IsSourceOf (lines_form input) kept root (Lines rows) = kept_at kept root ≡ Some rows.now
-IsSourceOf (generate_form count) kept root (Numbers n) = n ≡ count
-IsSourceOf _ kept root source = ⊥
-
--- what an action prints of rows
-abbrev pub text_of_rows : Action → List Row → List ℕ
-text_of_rows (print_action of) rows = flat_map row_text rows
-text_of_rows (size_action of) rows = number_line (length rows)
-text_of_rows (sum_action of c) rows = number_line (column_sum c rows)
+-- a run that began when the shelf held this and `out` told `begun` stands before these stages
+pub record Stands (script : Script) (holds : Option Holdings) (fixed : Bool) (begun : Option (List ℕ)) (stages : List Stage) (kept : List StoredRows) (taken : Option (List ℕ)) : Type 0 where
+  pub done : List Item
+  pub left : List Item
+  pub work : InWork script done left
+  pub rest : map (λ (s : Stage). item_of s.number s.statement) stages ≡ filter (is_stage script) left
+  pub are : AreKept script done kept
+  pub at : (inputs : Inputs) → TellsInputs holds fixed inputs → IsAt script inputs begun done kept taken

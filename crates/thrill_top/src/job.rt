@@ -1,97 +1,54 @@
-//! Runs a script.
-ghost use Rattle.std.specs.Prelude.{◌≡◌, ℕ, List, Some, Result, OnOk, IfErr};
-ghost use Rattle.dia_defs.specs.Scripts as scripts;
-ghost use Rattle.dia_defs.specs.declared.cause.Cause.{Cause};
-ghost use Rattle.dia_defs.specs.Lists.{Inputs};
-ghost use Rattle.dia_defs.specs.Reading.{nothing_known};
-ghost use Rattle.dia_defs.specs.Sound.{IsSound};
-ghost use Rattle.thrill_top.specs.Ends.{IsRunFault, IsWorkFault, IsScriptFault, IsScriptReason, IfScript};
-ghost use Rattle.thrill_top.specs.Making.{AreChains};
-ghost use Rattle.thrill_top.specs.Promise.{TellsInputs, EndsRun, EndsCall, fault_in};
-ghost use Rattle.thrill_top.specs.Steps.{IsMidway, GoesOn, Stops};
-ghost use Rattle.script_read.specs.Answering.{IsReason};
-ghost use Rattle.work_order.specs.Items.{items_in};
+//! Reads a script and runs it.
+ghost use Rattle.std.specs.Prelude.{◌≡◌, ◌⊎◌, ℕ, List, Some, IfErr};
+ghost use Rattle.row_defs.specs.Inputs.{Inputs};
+ghost use Rattle.job_words.specs.declared.fault.TopFault.TheVariants as faults;
+ghost use Rattle.thrill_top.specs.Ends.{IsCallFault, status_in};
+ghost use Rattle.thrill_top.specs.Errors.{bytes_fault, script_fault, run_fault};
+ghost use Rattle.thrill_top.specs.Promise.{TellsInputs, TellsScript, EndsCall, fault_in};
 
-use crate::fault::TopFault;
-use crate::item::do_item;
-use crate::kept::Kept;
-use crate::making::{Made, chains_of};
-use crate::read::read_bytes;
+use crate::read::{BytesErr, read_bytes};
+use crate::run::run_accepted;
+use crate::stage::RunErr;
 use dia_edge::{Name, NoMemory, Shelf, Sink};
-use script_read::{ReadErr, Script, read_script};
+use job_words::TopFault;
+use script_read::{ReadErr, read_script};
 use std::alloc::Global;
 use std::sync::Wait;
-use work_order::{Item, work_of};
 
-/// Does items of the work, one after the other.
-fn do_items<R: Wait, N: Shelf, S: Sink>(
-    rt: &R,
-    alloc: Global,
-    script: &Script,
-    chains: &[Made<'_>],
-    items: &[Item],
-    kept: &mut Vec<Kept>,
-    shelf: &mut N,
-    out: &mut S,
-) -> Result<(), TopFault>
-    requires midway { IsMidway script.now (items_in items.now) kept.old.items }
-    requires chains { AreChains script.now chains.now }
-    ensures ok { OnOk result (GoesOn script.now (N.holds shelf.old) (N.is_fixed shelf.old) (items_in items.now) kept.old.items (S.taken out.old) kept.new.items (S.taken out.new)) }
-    ensures refused { IfErr result (λ f. Stops script.now (N.holds shelf.old) (N.is_fixed shelf.old) (items_in items.now) kept.old.items (S.taken out.old) f (S.taken out.new)) }
-    ensures fault { IfErr result (λ f. IsRunFault f (N.faults shelf.old) (N.faults shelf.new) (S.faults out.old) (S.faults out.new)) }
-    ensures kind { IfErr result IsWorkFault }
+/// The fault for a script whose bytes weren't read; want of memory where there is none for its name.
+fn fault_of_bytes(name: &Name, e: BytesErr) -> TopFault
+    ensures { (result ≡ bytes_fault name.now e) ⊎ (result ≡ faults.NoMemory) }
 {
-    match items.split_first() {
-        None => Ok(()),
-        Some((item, rest)) => match do_item(rt, alloc, script, chains, *item, kept, shelf, out) {
-            Ok(()) => do_items(rt, alloc, script, chains, rest, kept, shelf, out),
-            Err(f) => Err(f),
+    match e {
+        BytesErr::Read { count } => TopFault::ReadFault { count },
+        BytesErr::NoMemory => TopFault::NoMemory,
+        BytesErr::Missing => match name.copy() {
+            Ok(name) => TopFault::Missing { name },
+            Err(NoMemory) => TopFault::NoMemory,
         },
     }
 }
 
-/// Does the work of an accepted script.
-fn run_accepted<R: Wait, N: Shelf, S: Sink>(
-    rt: &R,
-    alloc: Global,
-    script: &Script,
-    shelf: &mut N,
-    out: &mut S,
-) -> Result<(), TopFault>
-    requires { IsSound nothing_known 1 script.now }
-    ensures ends { (inputs : Inputs) (start : List ℕ) → TellsInputs (N.holds shelf.old) (N.is_fixed shelf.old) inputs → S.taken out.old ≡ Some start
-        → EndsRun script.now inputs start (fault_in result) (S.taken out.new) }
-    ensures fault { IfErr result (λ f. IsRunFault f (N.faults shelf.old) (N.faults shelf.new) (S.faults out.old) (S.faults out.new)) }
-    ensures kind { IfErr result IsWorkFault }
-{
-    let chains = match chains_of(alloc, script) {
-        Ok(chains) => chains,
-        Err(NoMemory) => return Err(TopFault::NoMemory),
-    };
-    let items = match work_of(alloc, script) {
-        Ok(items) => items,
-        Err(NoMemory) => return Err(TopFault::NoMemory),
-    };
-    let mut kept = Vec::new(alloc);
-    do_items(
-        rt,
-        alloc,
-        script,
-        chains.as_slice(),
-        items.as_slice(),
-        &mut kept,
-        shelf,
-        out,
-    )
-}
-
-fn script_fault(e: ReadErr) -> TopFault
-    ensures kind { IsScriptFault result }
-    ensures reason { (reading : Result scripts.Script (ℕ × Cause)) → IsReason e reading → IsScriptReason result reading }
+fn fault_of_script(e: ReadErr) -> TopFault
+    ensures { result ≡ script_fault e }
 {
     match e {
         ReadErr::Bad { line, cause } => TopFault::Script { line, cause },
         ReadErr::NoMemory => TopFault::NoMemory,
+    }
+}
+
+fn fault_of_run(e: RunErr) -> TopFault
+    ensures { result ≡ run_fault e }
+{
+    match e {
+        RunErr::Missing { name } => TopFault::Missing { name },
+        RunErr::LineTooLong { name, line } => TopFault::LineTooLong { name, line },
+        RunErr::InputTooLong { name } => TopFault::InputTooLong { name },
+        RunErr::TooManyRows { line } => TopFault::TooManyRows { line },
+        RunErr::Read { count } => TopFault::ReadFault { count },
+        RunErr::Write { count } => TopFault::WriteFault { count },
+        RunErr::NoMemory => TopFault::NoMemory,
     }
 }
 
@@ -103,21 +60,22 @@ pub(crate) fn run_script<R: Wait, N: Shelf, S: Sink>(
     shelf: &mut N,
     out: &mut S,
 ) -> Result<(), TopFault>
-    ensures ends { (inputs : Inputs) (start : List ℕ) → TellsInputs (N.holds shelf.old) (N.is_fixed shelf.old) inputs → S.taken out.old ≡ Some start
-        → EndsCall inputs name.now start (fault_in result) (S.taken out.new) }
-    ensures fault { IfErr result (λ f. IsRunFault f (N.faults shelf.old) (N.faults shelf.new) (S.faults out.old) (S.faults out.new)) }
-    ensures before { IfErr result (λ f. IfScript f (out.new ≡ out.old)) }
+    ensures ends { (inputs : Inputs) → TellsInputs (N.holds shelf.old) (N.is_fixed shelf.old) inputs
+        → EndsCall inputs name.now (S.taken out.old) (fault_in result) (S.taken out.new) }
+    ensures script { (inputs : Inputs) → TellsInputs (N.holds shelf.old) (N.is_fixed shelf.old) inputs
+        → TellsScript inputs name.now (fault_in result) (status_in (fault_in result)) (out.new ≡ out.old) }
+    ensures fault { IfErr result (λ f. IsCallFault f (N.faults shelf.old) (N.faults shelf.new) (S.faults out.old) (S.faults out.new) (out.new ≡ out.old)) }
 {
     let bytes = match read_bytes(alloc, shelf, name) {
         Ok(bytes) => bytes,
-        Err(f) => return Err(f),
+        Err(e) => return Err(fault_of_bytes(name, e)),
     };
     let script = match read_script(alloc, bytes.as_slice()) {
         Ok(script) => script,
-        Err(e) => return Err(script_fault(e)),
+        Err(e) => return Err(fault_of_script(e)),
     };
     match run_accepted(rt, alloc, &script, shelf, out) {
         Ok(()) => Ok(()),
-        Err(f) => Err(f),
+        Err(e) => Err(fault_of_run(e)),
     }
 }

@@ -1,25 +1,24 @@
 //! The rows of inputs' lines, kept until the run ends.
-ghost use Rattle.std.specs.Prelude.{◌≡◌, ℕ, List, Some};
+ghost use Rattle.std.specs.Prelude.{◌≡◌};
 ghost use Rattle.std.specs.List.{AllByRecursion};
 ghost use Rattle.std.specs.Option.{option_map};
-ghost use Rattle.dia_defs.specs.Scripts.{Form, line, statement_at};
+ghost use Rattle.lop_chain.specs.Operands.{root_in};
 ghost use Rattle.row_feed.specs.Sources.{IsSource};
-ghost use Rattle.thrill_top.specs.Steps.{kept_at, AreLines, HasRoot, IsSourceOf};
+ghost use Rattle.thrill_top.specs.Steps.{kept_at, AreLines, HasRows, IsSourceOf};
 
 use dia_lines::LineRows;
+use lop_chain::Root;
 use row_feed::Source;
-use script_read::{Form as LineForm, Script, Statement};
-use work_order::find_statement;
 
 /// The rows of a line.
 #[derive(Drop)]
-pub(crate) struct Kept {
+pub(crate) struct StoredRows {
     pub number: u32,
     pub rows: LineRows,
 }
 
 /// The rows of the line with this number.
-pub(crate) fn find_kept(kept: &[Kept], number: u32) -> Option<&LineRows>
+fn find_kept(kept: &[StoredRows], number: u32) -> Option<&LineRows>
     ensures { option_map (λ rows. rows.now) result ≡ kept_at kept.now number }
 {
     match kept.split_first() {
@@ -34,22 +33,18 @@ pub(crate) fn find_kept(kept: &[Kept], number: u32) -> Option<&LineRows>
     }
 }
 
-/// The rows of a line that names none: those that are kept of an input's lines, or numbers.
-pub(crate) fn source_of<'k>(script: &Script, kept: &'k [Kept], root: u32) -> Source<'k>
-    requires root { (name : List ℕ) × (form : Form) × (statement_at script.now root ≡ Some (line name form)) × HasRoot form kept.now root }
+/// The rows at a root: those that are kept of its line, or its numbers.
+pub(crate) fn source_of<'k>(kept: &'k [StoredRows], root: Root) -> Source<'k>
+    requires rows { HasRows kept.now (root_in root) }
     requires lines { AllByRecursion AreLines kept.now }
     ensures source { IsSource result }
-    ensures of { (name : List ℕ) (form : Form) → statement_at script.now root ≡ Some (line name form) → IsSourceOf form kept.now root result }
+    ensures of { IsSourceOf kept.now (root_in root) result }
 {
-    match find_statement(script.statements(), root) {
-        Some(Statement::Line { name: _, form }) => match form {
-            LineForm::Lines { .. } => match find_kept(kept, root) {
-                Some(rows) => Source::Lines(rows),
-                None => unreachable!(),
-            },
-            LineForm::Generate { count } => Source::Numbers(*count),
-            _ => unreachable!(),
+    match root {
+        Root::Count { rows, .. } => Source::Numbers(rows),
+        Root::Stored(number) => match find_kept(kept, number) {
+            Some(rows) => Source::Lines(rows),
+            None => unreachable!(),
         },
-        _ => unreachable!(),
     }
 }

@@ -1,22 +1,18 @@
-//! The program's own call: what the words of a command line mean, and the run of a script.
+//! The program's own call: reads a script, runs it, and tells how it ended.
 //!
 //! `thrill_call` does all that the program does; `main` hands it the real shelf, streams and disk. The words of its
-//! contract stand in `specs/`: Words, Faults, Ends; those below it in Chains and Making.
+//! contract stand in `specs/`: Promise, Ends; those below it in Errors and Steps.
 #![tactic(auto)]
 
-mod action;
-mod fault;
-mod item;
 mod job;
 mod kept;
-mod making;
 mod read;
+mod run;
+mod stage;
 mod top;
-mod words;
 
-pub use fault::{TopFault, put_fault};
+pub use job_words::TopFault;
 pub use top::{TopEnd, thrill_call};
-pub use words::script_of;
 
 #[cfg(test)]
 mod tests;

@@ -1,16 +1,42 @@
 //! Reads the bytes of a script.
 ghost use Rattle.std.specs.Prelude.{◌≡◌, ◌≤◌, ◌≢◌, ℕ, List, take, true, length, Some, OnErr, IfOk, IfErr, IfSome, is_some};
-ghost use Rattle.dia_defs.specs.Lists.{Inputs};
+ghost use Rattle.row_defs.specs.Inputs.{Inputs};
 ghost use Rattle.dia_edge.specs.Counts.{HasRisen};
-ghost use Rattle.thrill_top.specs.Ends.{IsShelfFault, IsBytesFault, IsAbsentScript};
+ghost use Rattle.thrill_top.specs.Ends.{IsAbsentBytes};
+ghost use Rattle.thrill_top.specs.Errors.{TellsBytes};
 ghost use Rattle.thrill_top.specs.Promise.{TellsInputs};
 
-use crate::fault::TopFault;
 use dia_edge::{Failed, Name, NoMemory, Shelf};
+use script_defs::limits::SCRIPT_LIMIT;
 use std::alloc::Global;
 
+/// Why the bytes of a script weren't read.
+#[derive(Clone, Copy, Debug, PartialEq, Eq)]
+pub(crate) enum BytesErr {
+    /// There is no such script.
+    Missing,
+    /// The shelf failed.
+    Read {
+        /// Its count of faults now.
+        count: u64,
+    },
+    /// Memory ran out.
+    NoMemory,
+}
+
+impl From<NoMemory> for BytesErr {
+    ghost use Rattle.std.specs.Prelude.{◌≡◌};
+    ghost use Rattle.thrill_top.specs.declared.read.BytesErr.TheVariants as variants;
+
+    ghost from_gives = { λ _ e. e ≡ variants.NoMemory };
+
+    fn from(_: NoMemory) -> BytesErr {
+        BytesErr::NoMemory
+    }
+}
+
 // one byte more than a script may have
-const ASKED: usize = 131_329;
+const ASKED: usize = SCRIPT_LIMIT + 1;
 
 fn new_buffer(alloc: Global) -> Result<Vec<u8>, NoMemory>
     ensures { IfOk result (λ buffer. length buffer.items ≡ ASKED) }
@@ -39,11 +65,10 @@ fn fill_buffer<N: Shelf>(shelf: &mut N, buffer: &mut [u8]) -> Result<usize, Fail
 }
 
 /// The first bytes of the opened input, one more than a script may have.
-fn read_opened<N: Shelf>(alloc: Global, shelf: &mut N) -> Result<Vec<u8>, TopFault>
+fn read_opened<N: Shelf>(alloc: Global, shelf: &mut N) -> Result<Vec<u8>, BytesErr>
     ensures bytes { IfOk result (λ bytes. IfSome (N.left shelf.old) (λ all. bytes.items ≡ take ASKED all)) }
-    ensures fault { IfErr result (λ f. IsShelfFault f (N.faults shelf.old) (N.faults shelf.new)) }
-    ensures late { IfErr result (λ f. (inputs : Inputs) (name : List ℕ) → IsAbsentScript f inputs name) }
-    ensures kind { IfErr result IsBytesFault }
+    ensures told { IfErr result (λ e. TellsBytes e (N.faults shelf.old) (N.faults shelf.new)) }
+    ensures late { IfErr result (λ e. (inputs : Inputs) (name : List ℕ) → IsAbsentBytes e inputs name) }
     ensures counts { N.faults shelf.old ≤ N.faults shelf.new }
     ensures fixed { N.is_fixed shelf.old ≡ true → (N.is_fixed shelf.new ≡ true) × (N.holds shelf.new ≡ N.holds shelf.old) }
 {
@@ -53,7 +78,7 @@ fn read_opened<N: Shelf>(alloc: Global, shelf: &mut N) -> Result<Vec<u8>, TopFau
             bytes.truncate(total);
             Ok(bytes)
         }
-        Err(Failed) => Err(TopFault::ReadFault {
+        Err(Failed) => Err(BytesErr::Read {
             count: shelf.fault_count(),
         }),
     }
@@ -64,19 +89,18 @@ pub(crate) fn read_bytes<N: Shelf>(
     alloc: Global,
     shelf: &mut N,
     name: &Name,
-) -> Result<Vec<u8>, TopFault>
+) -> Result<Vec<u8>, BytesErr>
     ensures bytes { (inputs : Inputs) → TellsInputs (N.holds shelf.old) (N.is_fixed shelf.old) inputs
         → IfOk result (λ bytes. (all : List ℕ) × (inputs name.now ≡ Some all) × (bytes.items ≡ take ASKED all)) }
-    ensures absent { (inputs : Inputs) → TellsInputs (N.holds shelf.old) (N.is_fixed shelf.old) inputs → IfErr result (λ f. IsAbsentScript f inputs name.now) }
-    ensures fault { IfErr result (λ f. IsShelfFault f (N.faults shelf.old) (N.faults shelf.new)) }
-    ensures kind { IfErr result IsBytesFault }
+    ensures absent { (inputs : Inputs) → TellsInputs (N.holds shelf.old) (N.is_fixed shelf.old) inputs → IfErr result (λ e. IsAbsentBytes e inputs name.now) }
+    ensures told { IfErr result (λ e. TellsBytes e (N.faults shelf.old) (N.faults shelf.new)) }
     ensures counts { N.faults shelf.old ≤ N.faults shelf.new }
     ensures fixed { N.is_fixed shelf.old ≡ true → (N.is_fixed shelf.new ≡ true) × (N.holds shelf.new ≡ N.holds shelf.old) }
 {
     match shelf.open(name.text()) {
         Ok(true) => read_opened(alloc, shelf),
-        Ok(false) => Err(TopFault::Missing { name: name.copy()? }),
-        Err(Failed) => Err(TopFault::ReadFault {
+        Ok(false) => Err(BytesErr::Missing),
+        Err(Failed) => Err(BytesErr::Read {
             count: shelf.fault_count(),
         }),
     }

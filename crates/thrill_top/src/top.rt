@@ -1,18 +1,18 @@
 //! The top call.
 ghost use Rattle.std.specs.Prelude.{◌≡◌, ◌≢◌, ◌↔◌, ◌⊎◌, ℕ, List, None, Some, MatchOption};
-ghost use Rattle.dia_defs.specs.Scripts.{Script};
-ghost use Rattle.dia_defs.specs.Lists.{Inputs};
-ghost use Rattle.dia_defs.specs.declared.cause.Cause.{Cause};
+ghost use Rattle.script_defs.specs.Scripts.{Script};
+ghost use Rattle.row_defs.specs.Inputs.{Inputs};
+ghost use Rattle.row_defs.specs.declared.cause.Cause.{Cause};
 ghost use Rattle.dia_edge.specs.Counts.{HasRisen};
-ghost use Rattle.thrill_top.specs.Ends.{Told};
-ghost use Rattle.thrill_top.specs.Faults.{fault_status};
+ghost use Rattle.job_words.specs.Faults.{fault_status};
+ghost use Rattle.job_words.specs.Words.{script_of};
+ghost use Rattle.thrill_top.specs.Ends.{TookLine};
+ghost use Rattle.thrill_top.specs.Errors.{TellsFault};
 ghost use Rattle.thrill_top.specs.Promise.{TellsInputs, EndsCall, IsReadable, IsRefusedScript, IsRefusedWith, IsAbsentWith, IsExcused, IsWhole};
-ghost use Rattle.thrill_top.specs.Words.{script_of};
 
-use crate::fault::{TopFault, put_fault};
 use crate::job::run_script;
-use crate::words::script_of;
 use dia_edge::{Disk, Gate, Name, Shelf, Sink};
+use job_words::{TopFault, put_fault, script_of};
 use std::alloc::Global;
 use std::sync::Wait;
 
@@ -31,7 +31,7 @@ pub struct TopEnd<D> {
 fn end_with<E: Sink, D: Disk>(fault: TopFault, err: &mut E, disk: D) -> TopEnd<D>
     ensures status { result.status ≡ fault_status fault }
     ensures fault { result.fault ≡ Some fault }
-    ensures told { Told fault (E.taken err.old) (E.taken err.new) (E.faults err.old) (E.faults err.new) }
+    ensures told { TookLine fault (E.taken err.old) (E.taken err.new) (E.faults err.old) (E.faults err.new) }
     ensures disk { result.disk ≡ disk }
 {
     let _ = put_fault(&fault, err);
@@ -56,35 +56,36 @@ pub fn thrill_call<R: Wait, N: Shelf, S: Sink, E: Sink, D: Disk + Send, G: Gate 
     disk: D,
     _gate: &G,
 ) -> TopEnd<D>
-    // Where the shelf tells what it holds and is fixed, and `out` tells what it took: at status 0 there is one list for
-    // each line that an action needs and for no other, each a result of its definition on the lists that it names, and
-    // `out` took exactly the texts of the script's actions on these lists. At each other status the end is the one that
-    // the fault tells: `out` took exactly the texts of the actions before, or at 8, 9 and 12 a front of such texts.
-    ensures run { (inputs : Inputs) (name start : List ℕ) → TellsInputs (N.holds shelf.old) (N.is_fixed shelf.old) inputs → script_of words.now ≡ Some name
-        → S.taken out.old ≡ Some start → EndsCall inputs name start result.fault (S.taken out.new) }
-    // There, too: a script that is refused ends the call just so, and one that isn't there, want of memory and faults
-    // of the shelf apart.
-    ensures refused { (inputs : Inputs) (name start : List ℕ) (line : ℕ) (cause : Cause) → TellsInputs (N.holds shelf.old) (N.is_fixed shelf.old) inputs
-        → script_of words.now ≡ Some name → S.taken out.old ≡ Some start → IsRefusedScript inputs name line cause
-        → IsRefusedWith line cause result.fault ⊎ IsExcused result.status }
-    ensures absent { (inputs : Inputs) (name start : List ℕ) → TellsInputs (N.holds shelf.old) (N.is_fixed shelf.old) inputs
-        → script_of words.now ≡ Some name → S.taken out.old ≡ Some start → inputs name ≡ None
-        → IsAbsentWith name result.fault ⊎ IsExcused result.status }
+    // Where the shelf tells what it holds and is fixed: at status 0 there is one list for each line that an action needs
+    // and for no other, each a result of its definition on the lists that it names, and an `out` that tells took exactly
+    // the texts of the script's actions on these lists. At each other status the end is the one that the fault tells: it
+    // took exactly the texts of the actions before, or at 8, 9 and 12 a prefix of such texts.
+    ensures run { (inputs : Inputs) (name : List ℕ) → TellsInputs (N.holds shelf.old) (N.is_fixed shelf.old) inputs → script_of words.now ≡ Some name
+        → EndsCall inputs name (S.taken out.old) result.fault (S.taken out.new) }
+    // There, too: a script that is refused ends the call just so, and one that isn't there, want of memory and faults of
+    // the shelf apart; and `out` took nothing, whatever it tells.
+    ensures refused { (inputs : Inputs) (name : List ℕ) (line : ℕ) (cause : Cause) → TellsInputs (N.holds shelf.old) (N.is_fixed shelf.old) inputs
+        → script_of words.now ≡ Some name → IsRefusedScript inputs name line cause
+        → (IsRefusedWith line cause result.fault ⊎ IsExcused result.status) × (out.new ≡ out.old) }
+    ensures absent { (inputs : Inputs) (name : List ℕ) → TellsInputs (N.holds shelf.old) (N.is_fixed shelf.old) inputs
+        → script_of words.now ≡ Some name → inputs name ≡ None
+        → (IsAbsentWith name result.fault ⊎ IsExcused result.status) × (out.new ≡ out.old) }
     // And where the script is accepted, each input that it needs can be read, and no count rises, the status is 0, or 12
     // for want of memory, or 7 where more rows arrive at an action than may.
-    ensures complete { (inputs : Inputs) (name start : List ℕ) (script : Script) → TellsInputs (N.holds shelf.old) (N.is_fixed shelf.old) inputs
-        → script_of words.now ≡ Some name → S.taken out.old ≡ Some start → IsReadable inputs name script
+    ensures complete { (inputs : Inputs) (name : List ℕ) (script : Script) → TellsInputs (N.holds shelf.old) (N.is_fixed shelf.old) inputs
+        → script_of words.now ≡ Some name → IsReadable inputs name script
         → (HasRisen (N.faults shelf.old) (N.faults shelf.new) → ⊥) → (HasRisen (S.faults out.old) (S.faults out.new) → ⊥)
         → IsWhole script inputs result.status }
     // Status 2 comes exactly where the words mean nothing.
     ensures usage { (result.status ≡ 2) ↔ (script_of words.now ≡ None) }
-    // 8 and 9 come only where the count of the shelf or of `out` rose in this call.
+    // A fault of the shelf or of `out` tells the count now, which rose in this call; so 8 and 9 come only where it did.
+    ensures counts { MatchOption result.fault (Unit {0}) (λ f. TellsFault f (N.faults shelf.old) (N.faults shelf.new) (S.faults out.old) (S.faults out.new)) }
     ensures read { result.status ≡ 8 → HasRisen (N.faults shelf.old) (N.faults shelf.new) }
     ensures write { result.status ≡ 9 → HasRisen (S.faults out.old) (S.faults out.new) }
     // At 2 and 3 `out` took nothing, whatever it tells.
     ensures untouched { (result.status ≡ 2) ⊎ (result.status ≡ 3) → out.new ≡ out.old }
-    // `err` takes nothing at 0, else the fault's line, or a front of it where its count rose.
-    ensures told { MatchOption result.fault (err.new ≡ err.old) (λ f. Told f (E.taken err.old) (E.taken err.new) (E.faults err.old) (E.faults err.new)) }
+    // `err` takes nothing at 0, else the fault's line, or a prefix of it where its count rose.
+    ensures told { MatchOption result.fault (err.new ≡ err.old) (λ f. TookLine f (E.taken err.old) (E.taken err.new) (E.faults err.old) (E.faults err.new)) }
     ensures fault { MatchOption result.fault (result.status ≡ 0) (λ f. result.status ≡ fault_status f) }
     ensures disk { result.disk ≡ disk }
 {

@@ -13,7 +13,7 @@ use Rattle.turn_table.specs.declared.seat.Doing.{Doing}
 use Rattle.turn_table.specs.declared.seat.Stage.{Stage}
 use Rattle.turn_table.specs.declared.seat.Stage.TheVariants.{Idle, Holding, Closing}
 use Rattle.turn_table.specs.Seats.{Slot, SeatState, doing, idle, Steps}
-use Rattle.turn_table.specs.Turning.{Knows, view_of, Kept, Took, Closed, reached, gave}
+use Rattle.turn_table.specs.Turning.{Knows, view_of, KeepsRule, Took, Closed, reached, gave}
 
 abbrev Home : Type 0 → Type 0
 Home S = Option (Option (Slot S))
@@ -52,7 +52,7 @@ module _ {S X V : Type 0} (plain : S → X) (holds : X → List V → Type 0) wh
   St = State (Slot S) D
 
   abbrev Rule : St → Type 0
-  Rule = Kept plain holds
+  Rule = KeepsRule plain holds
 
   abbrev word : St → ℕ
   word s = get_or s.words 0 0

@@ -24,7 +24,7 @@ abbrev pub view_of : {X V : Type 0} → Doing X V → V
 view_of known = known.view
 
 -- the state's own rule holds of all views and of the value that is at home, or that the holder found
-pub record Kept {S X V : Type 0} (plain : S → X) (holds : X → List V → Type 0) (table : State (Slot S) (Doing X V)) : Type 0 where
+pub record KeepsRule {S X V : Type 0} (plain : S → X) (holds : X → List V → Type 0) (table : State (Slot S) (Doing X V)) : Type 0 where
   pub value : X
   pub holder : ℕ
   pub has_word : 0 < length table.words
@@ -53,7 +53,7 @@ module _ {S X V : Type 0} where
   abbrev pub MayReach : (S → X) → (X → List V → Type 0) → (SeatState S X V → SeatState S X V → Type 0) → Type 0
   MayReach plain holds told =
       (slots seat : ℕ) (before : SeatState S X V) (change : ℕ → ℕ) → ((word : ℕ) → 0 < change word)
-      → Allows (Kept plain holds) slots seat before 0 change (reached told before)
+      → Allows (KeepsRule plain holds) slots seat before 0 change (reached told before)
 
   -- the seat gave this state, and has the view after the event
   abbrev pub gave : (S → X) → (X → X → V → V) → SeatState S X V → ℕ → SeatState S X V → Type 0

@@ -23,9 +23,9 @@ pub struct Turns<S> {
 
 impl<S: Shared> TableRule<Option<S>, Doing<S::Plain, S::View>, Snapshot<S>> for Turns<S> {
     ghost use Rattle.turn_table.specs.Seats.{idle};
-    ghost use Rattle.turn_table.specs.Turning.{Kept};
+    ghost use Rattle.turn_table.specs.Turning.{KeepsRule};
 
-    ghost holds = { λ _. Kept S.plain S.holds };
+    ghost holds = { λ _. KeepsRule S.plain S.holds };
 
     ghost first = { λ opening. idle (S.opening (S.plain opening.value)) };
 }

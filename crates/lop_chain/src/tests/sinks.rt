@@ -1,7 +1,7 @@
 //! Sinks that refuse a row where they have had as many as they take.
 ghost use Rattle.std.specs.Prelude.{◌≡◌, ◌≤◌, ◌+◌, ◌++◌, ◌∷◌, [], OnOk, OnErr, Some, refl, length, slice_get, vec_len, ⊤};
 ghost use Rattle.std.proofs.Common.{arith, sym, ◌∙◌, append_assoc, append-nil, length-append, ap};
-ghost use Rattle.dia_defs.specs.declared.kind.Kind.TheVariants.{Int};
+ghost use Rattle.row_defs.specs.declared.kind.Kind.TheVariants.{Int};
 ghost use Rattle.dia_item.specs.Lent.{row_in_ref};
 
 use crate::make::number_at;

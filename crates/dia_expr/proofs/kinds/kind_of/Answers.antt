@@ -1,5 +1,5 @@
 use Rattle.std.proofs.Common.{rules, ◌≡◌, sym, true, length}
-use Rattle.dia_defs.specs.Values.{lacks_column}
+use Rattle.row_defs.specs.Values.{lacks_column}
 use Rattle.dia_item.specs.KindList.{kind_list}
 use Rattle.dia_expr.specs.Exprs.{expr_in}
 use Rattle.dia_expr.proofs.KindLemmas.{no_kind}

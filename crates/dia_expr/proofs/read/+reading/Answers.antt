@@ -1,7 +1,7 @@
 use Rattle.std.proofs.Common.{◌≡◌, ◌∷◌, ℕ, List, None, Some, ap, sym, subst, ◌∙◌}
 use Rattle.std.proofs.lemmas.List.{length-map}
 use Rattle.std.specs.Option.{option_map}
-use Rattle.dia_defs.specs.Expressions.{whole, beginning_of, and_operands}
+use Rattle.row_defs.specs.Expressions.{whole, beginning_of, and_operands}
 use Rattle.dia_expr.specs.declared.read.ExprErr.TheVariants.{UnknownWord}
 use Rattle.dia_expr.specs.Exprs.{expr_in}
 use Rattle.dia_expr.specs.Beginnings.{form_in, beginning_in}

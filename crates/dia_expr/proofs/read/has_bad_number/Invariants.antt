@@ -1,6 +1,6 @@
 use Rattle.std.proofs.Common.{◌≡◌, drop}
 use Rattle.std.specs.List.{list_any}
-use Rattle.dia_defs.specs.Expressions.{is_bad_number}
+use Rattle.row_defs.specs.Expressions.{is_bad_number}
 use Rattle.dia_expr.specs.Reads.{words_in}
 use Rattle.dia_expr.proofs.read.has_bad_number.Given as goal
 

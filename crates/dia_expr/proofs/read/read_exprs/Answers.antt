@@ -1,5 +1,5 @@
 use Rattle.std.proofs.Common.{ℕ, List, IfErr, ap, subst, ◌∙◌}
-use Rattle.dia_defs.specs.Expressions.{list_fault}
+use Rattle.row_defs.specs.Expressions.{list_fault}
 use Rattle.dia_expr.specs.Reads.{words_in, IsFault}
 use Rattle.dia_expr.proofs.read.read_exprs.Goals as goal
 

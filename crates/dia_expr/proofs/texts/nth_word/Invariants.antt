@@ -1,5 +1,5 @@
 use Rattle.std.proofs.Common.{◌≡◌, ◌≤◌, [], length, slice_index_or}
-use Rattle.dia_defs.specs.Texts.{words_in_text}
+use Rattle.row_defs.specs.Texts.{words_in_text}
 use Rattle.dia_expr.proofs.texts.nth_word.Given as goal
 
 abbrev pub invariant-loop-word : goal.invariant-loop-word

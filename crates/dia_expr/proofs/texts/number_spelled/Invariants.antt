@@ -1,5 +1,5 @@
 use Rattle.std.proofs.Common.{◌≡◌, ◌<◌, ◌^◌, drop}
-use Rattle.dia_defs.specs.Texts.{number_spelled}
+use Rattle.row_defs.specs.Texts.{number_spelled}
 use Rattle.dia_expr.specs.Digits.{with_digits}
 use Rattle.dia_expr.proofs.texts.number_spelled.Given as goal
 

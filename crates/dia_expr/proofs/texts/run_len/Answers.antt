@@ -1,5 +1,5 @@
 use Rattle.std.proofs.Common.{rules, ◌≡◌, false, get_or, drop, suc, drop-cons, add-one}
-use Rattle.dia_defs.specs.Texts.{is_blank}
+use Rattle.row_defs.specs.Texts.{is_blank}
 use Rattle.dia_expr.proofs.WordLemmas.{AreNoBlanks-more}
 use Rattle.dia_expr.proofs.texts.run_len.Goals as goal
 

@@ -1,5 +1,5 @@
 use Rattle.std.proofs.Common.{rules, ◌≡◌, ◌∙◌, sym, ap, true, List, ℕ, arith}
-use Rattle.dia_defs.specs.Texts.{is_blank, words_in_text}
+use Rattle.row_defs.specs.Texts.{is_blank, words_in_text}
 use Rattle.dia_expr.proofs.WordLemmas.{words_blank}
 use Rattle.dia_expr.proofs.texts.skip_blanks.Goals as goal
 

@@ -1,5 +1,5 @@
 use Rattle.std.proofs.Common.{◌≡◌, ◌≤◌, length}
-use Rattle.dia_defs.specs.Texts.{words_in_text}
+use Rattle.row_defs.specs.Texts.{words_in_text}
 use Rattle.dia_expr.proofs.texts.skip_blanks.Given as goal
 
 abbrev pub invariant-loop-b : goal.invariant-loop-b

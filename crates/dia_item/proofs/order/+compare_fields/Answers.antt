@@ -1,5 +1,5 @@
 use Rattle.std.proofs.Common.{rules, ◌∙◌, sym}
-use Rattle.dia_item.proofs.TestLemmas.{front_has}
+use Rattle.dia_item.proofs.TestLemmas.{prefix_has}
 use Rattle.dia_item.proofs.KeyLemmas.{cmp_none, cmp_equal, cmp_decided}
 use Rattle.dia_item.proofs.order.+compare_fields.Goals as goal
 
@@ -7,17 +7,17 @@ pub returns-in_default : goal.returns-in_default
 returns-in_default t c = cmp_none _ _ _ c.in_default.ensures.cases
 
 pub split_field-requires : goal.split_field-requires
-split_field-requires t c = (front_has _ _ _ (rw c.in-Some.ensures.cases.0 at c.requires.a)).0
+split_field-requires t c = (prefix_has _ _ _ (rw c.in-Some.ensures.cases.0 at c.requires.a)).0
 
 pub split_field-requires-2 : goal.split_field-requires-2
-split_field-requires-2 t c = (front_has _ _ _ (rw c.in-Some.ensures.cases.0 at c.requires.b)).0
+split_field-requires-2 t c = (prefix_has _ _ _ (rw c.in-Some.ensures.cases.0 at c.requires.b)).0
 
 pub compare_fields-requires : goal.compare_fields-requires
 compare_fields-requires t c = (
   search rules,
   (
-    rw c.split_field.ensures.rest (front_has _ _ _ (rw c.in-Some.ensures.cases.0 at c.requires.a)).1,
-    rw c.split_field-2.ensures.rest (front_has _ _ _ (rw c.in-Some.ensures.cases.0 at c.requires.b)).1,
+    rw c.split_field.ensures.rest (prefix_has _ _ _ (rw c.in-Some.ensures.cases.0 at c.requires.a)).1,
+    rw c.split_field-2.ensures.rest (prefix_has _ _ _ (rw c.in-Some.ensures.cases.0 at c.requires.b)).1,
   ),
 )
 

@@ -1,8 +1,8 @@
-use Rattle.dia_item.proofs.RowLemmas.{row_found, no_front, no_back, no_kinds}
+use Rattle.dia_item.proofs.RowLemmas.{row_found, no_prefix, no_back, no_kinds}
 use Rattle.dia_item.proofs.read.+fields_len.Goals as goal
 
 pub returns-in_default-clause-none : goal.returns-in_default-clause-none
-returns-in_default-clause-none t c = rw c.in-Some.ensures.cases.0 (no_front _ _ _ c.in_default.ensures.none)
+returns-in_default-clause-none t c = rw c.in-Some.ensures.cases.0 (no_prefix _ _ _ c.in_default.ensures.none)
 
 pub returns-in_default-fields_len-clause-none : goal.returns-in_default-fields_len-clause-none
 returns-in_default-fields_len-clause-none t c =

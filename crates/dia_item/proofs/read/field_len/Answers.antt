@@ -12,12 +12,12 @@ returns-then-bytes-lt4-clause-none c = rw c.in-Text.is (no_len _ c.if-bytes-lt4.
 pub returns-then-n-gt-LONGEST_TEXT-clause-none : goal.returns-then-n-gt-LONGEST_TEXT-clause-none
 returns-then-n-gt-LONGEST_TEXT-clause-none c = rw c.in-Text.is (
     elim c.then-n-gt-LONGEST_TEXT.branch [
-      | then-n-gt-LONGEST_TEXT-via-then-n-gt-LONGEST_TEXT w ↦ no_long _ _ c.u32_at_front-n.ensures w.if-n-gt-LONGEST_TEXT.true
-      | then-n-gt-LONGEST_TEXT-via-else-n-gt-LONGEST_TEXT+then-bytes-n w ↦ no_text _ _ c.u32_at_front-n.ensures (omega arith)
+      | then-n-gt-LONGEST_TEXT-via-then-n-gt-LONGEST_TEXT w ↦ no_long _ _ c.u32_at_prefix-n.ensures w.if-n-gt-LONGEST_TEXT.true
+      | then-n-gt-LONGEST_TEXT-via-else-n-gt-LONGEST_TEXT+then-bytes-n w ↦ no_text _ _ c.u32_at_prefix-n.ensures (omega arith)
     ])
 
 pub returns-else-bytes-lt8-clause-found : goal.returns-else-bytes-lt8-clause-found
 returns-else-bytes-lt8-clause-found c = rw c.in-Int.is (int_field _ (λ i. omega (arith, c.type_inv.bytes i)) (omega arith))
 
 pub returns-else-bytes-n-clause-found : goal.returns-else-bytes-n-clause-found
-returns-else-bytes-n-clause-found c = rw c.in-Text.is (text_field _ _ (λ i. omega (arith, c.type_inv.bytes i)) c.u32_at_front-n.ensures (omega arith) (omega arith))
+returns-else-bytes-n-clause-found c = rw c.in-Text.is (text_field _ _ (λ i. omega (arith, c.type_inv.bytes i)) c.u32_at_prefix-n.ensures (omega arith) (omega arith))

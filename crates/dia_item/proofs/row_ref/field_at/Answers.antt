@@ -1,5 +1,5 @@
 use Rattle.std.proofs.Common.{◌∙◌, ap, sym, Some}
-use Rattle.dia_defs.specs.Rows.{Cell}
+use Rattle.row_defs.specs.Rows.{Cell}
 use Rattle.dia_item.proofs.Walking.{has_next, cell_next}
 use Rattle.dia_item.proofs.row_ref.field_at.Goals as goal
 

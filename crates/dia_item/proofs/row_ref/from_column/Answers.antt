@@ -1,5 +1,5 @@
 use Rattle.std.proofs.Common.{◌≡◌, take, get_or, refl, arith, length-take-le}
-use Rattle.dia_defs.specs.declared.kind.Kind.TheVariants.{Int}
+use Rattle.row_defs.specs.declared.kind.Kind.TheVariants.{Int}
 use Rattle.dia_item.proofs.Walking.{has_next, from_next, kind_taken}
 use Rattle.dia_item.proofs.row_ref.from_column.Goals as goal
 

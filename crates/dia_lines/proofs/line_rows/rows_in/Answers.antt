@@ -1,6 +1,6 @@
 use Rattle.std.proofs.Common.{arith, ◌∙◌, ap, sym, subst, List, length, length-append, take, add-one, Some}
 use Rattle.std.proofs.lemmas.Option.{slice_get-get_or}
-use Rattle.dia_defs.specs.Rows.{Row}
+use Rattle.row_defs.specs.Rows.{Row}
 use Rattle.dia_lines.specs.Fitting.{AllFit}
 use Rattle.dia_lines.specs.Blocks.{rows_of_blocks}
 use Rattle.dia_lines.proofs.BlockLemmas.{rows_of_next}

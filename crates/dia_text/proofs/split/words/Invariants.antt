@@ -1,5 +1,5 @@
 use Rattle.std.proofs.Common.{◌≡◌, ◌++◌, [], map, filter, length}
-use Rattle.dia_defs.specs.Pieces.{pieces_from, is_some_bytes, words_of}
+use Rattle.row_defs.specs.Pieces.{pieces_from, is_some_bytes, words_of}
 use Rattle.dia_text.proofs.split.words.Given as goal
 
 abbrev pub invariant-loop-rest : goal.invariant-loop-rest

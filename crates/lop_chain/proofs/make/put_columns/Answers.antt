@@ -1,6 +1,6 @@
 use Rattle.std.proofs.Common.{rules, sym, ◌∙◌, ap, ◌++◌, ◌∷◌, [], take, slice_set}
 use Rattle.std.proofs.lemmas.Option.{slice_get-get_or}
-use Rattle.dia_defs.specs.Rows.{Row, int}
+use Rattle.row_defs.specs.Rows.{Row, int}
 use Rattle.dia_item.specs.Fields.{cell_of}
 use Rattle.dia_item.specs.Lent.{row_in_ref}
 use Rattle.dia_item.specs.declared.field.Field.{Field}

@@ -1,5 +1,5 @@
 use Rattle.std.proofs.Common.{◌≡◌, ◌++◌, ap, ◌∙◌}
-use Rattle.dia_defs.specs.Rows.{Row, kinds_of}
+use Rattle.row_defs.specs.Rows.{Row, kinds_of}
 use Rattle.dia_item.specs.Lent.{row_in_ref}
 use Rattle.lop_chain.specs.Ops.{exprs_in, values_of}
 use Rattle.lop_chain.specs.OpLemmas.{values_kinds}

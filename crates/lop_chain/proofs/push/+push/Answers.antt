@@ -1,8 +1,8 @@
 use Rattle.std.proofs.Common.{rules, arith, ◌≡◌, ◌∙◌, [], List, ℕ, sym, ap, map}
-use Rattle.dia_defs.specs.declared.kind.Kind.TheVariants.{Int, Text}
-use Rattle.dia_defs.specs.Rows.{Row, kinds_of, text}
-use Rattle.dia_defs.specs.Texts.{words_in_text}
-use Rattle.dia_defs.specs.Lists.{raised, with_word}
+use Rattle.row_defs.specs.declared.kind.Kind.TheVariants.{Int, Text}
+use Rattle.row_defs.specs.Rows.{Row, kinds_of, text}
+use Rattle.row_defs.specs.Texts.{words_in_text}
+use Rattle.row_defs.specs.LocalOps.{raised, with_word}
 use Rattle.dia_item.specs.Lent.{row_in_ref}
 use Rattle.lop_chain.specs.Ops.{ops_in, rows_from}
 use Rattle.lop_chain.specs.OpLemmas.{kinds_of_set}

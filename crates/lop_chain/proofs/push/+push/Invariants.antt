@@ -1,9 +1,8 @@
 use Rattle.std.proofs.Common.{◌+◌, ◌*◌, ◌-◌, ◌∷◌, ◌≤◌, length, map}
 use Rattle.std.specs.List.{range_with_len}
-use Rattle.dia_defs.specs.Rows.{longest_text}
-use Rattle.dia_defs.specs.Texts.{words_in_text}
-use Rattle.dia_defs.specs.Scripts.{words_op, spread_op}
-use Rattle.dia_defs.specs.Lists.{with_word, raised, rows_through}
+use Rattle.row_defs.specs.Limits.{longest_text}
+use Rattle.row_defs.specs.Texts.{words_in_text}
+use Rattle.row_defs.specs.LocalOps.{words_op, spread_op, with_word, raised, rows_through}
 use Rattle.dia_item.specs.Lent.{row_in_ref}
 use Rattle.lop_chain.specs.Calls.{TookAllBut}
 use Rattle.lop_chain.specs.Ops.{ops_in, rows_from}

@@ -1,6 +1,6 @@
 use Rattle.std.proofs.Common.{◌≡◌, ◌∷◌, [], ap, ◌∙◌}
-use Rattle.dia_defs.specs.declared.kind.Kind.TheVariants.{Int, Text}
-use Rattle.dia_defs.specs.Rows.{kinds_of}
+use Rattle.row_defs.specs.declared.kind.Kind.TheVariants.{Int, Text}
+use Rattle.row_defs.specs.Rows.{kinds_of}
 use Rattle.dia_item.specs.Lent.{row_in_ref}
 use Rattle.lop_chain.proofs.tests.a_sink_that_refuses_has_the_rows_before.Goals as goal
 

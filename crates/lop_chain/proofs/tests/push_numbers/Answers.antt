@@ -1,6 +1,6 @@
 use Rattle.std.proofs.Common.{◌≡◌, ◌∷◌, [], ◌++◌, refl, ap, ◌∙◌}
-use Rattle.dia_defs.specs.declared.kind.Kind.TheVariants.{Int}
-use Rattle.dia_defs.specs.Rows.{int, Row, kinds_of}
+use Rattle.row_defs.specs.declared.kind.Kind.TheVariants.{Int}
+use Rattle.row_defs.specs.Rows.{int, Row, kinds_of}
 use Rattle.dia_item.specs.Lent.{row_in_ref}
 use Rattle.lop_chain.proofs.tests.push_numbers.Goals as goal
 

@@ -1,6 +1,6 @@
 use Rattle.std.proofs.Common.{◌≡◌, ◌∷◌, [], false}
-use Rattle.dia_defs.specs.declared.kind.Kind.TheVariants.{Int}
-use Rattle.dia_defs.specs.Sound.{AreSoundOps}
+use Rattle.row_defs.specs.declared.kind.Kind.TheVariants.{Int}
+use Rattle.row_defs.specs.LocalOps.{AreSoundOps}
 use Rattle.lop_chain.specs.Chains.{chain_ops}
 use Rattle.lop_chain.proofs.tests.push_numbers.Given as goal
 

@@ -1,6 +1,5 @@
 use Rattle.std.proofs.Common.{◌≡◌, ◌++◌, map}
-use Rattle.dia_defs.specs.Lists.{rows_through}
-use Rattle.dia_defs.specs.Sound.{AreSoundOps}
+use Rattle.row_defs.specs.LocalOps.{rows_through, AreSoundOps}
 use Rattle.dia_item.specs.Lent.{row_in_ref}
 use Rattle.lop_chain.specs.Calls.{TookAllBut}
 use Rattle.lop_chain.specs.Made.{MakesAsBefore}

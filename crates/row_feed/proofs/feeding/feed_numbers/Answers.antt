@@ -1,5 +1,5 @@
 use Rattle.std.proofs.Common.{◌≡◌, ◌∙◌}
-use Rattle.dia_defs.specs.Lists.{number_row}
+use Rattle.row_defs.specs.Rows.{number_row}
 use Rattle.dia_item.specs.Lent.{row_in_ref}
 use Rattle.lop_chain.specs.Chains.{chain_ops}
 use Rattle.lop_chain.specs.Made.{MakesAsBefore-trans}

@@ -1,7 +1,7 @@
 use Rattle.std.proofs.Common.{◌≡◌, ◌-◌, map}
 use Rattle.std.specs.List.{range_with_len}
-use Rattle.dia_defs.specs.Lists.{rows_through, number_row}
-use Rattle.dia_defs.specs.Sound.{AreSoundOps}
+use Rattle.row_defs.specs.LocalOps.{rows_through, AreSoundOps}
+use Rattle.row_defs.specs.Rows.{number_row}
 use Rattle.lop_chain.specs.Calls.{TookAllBut}
 use Rattle.lop_chain.specs.Made.{MakesAsBefore}
 use Rattle.lop_chain.specs.Chains.{chain_ops}

@@ -1,6 +1,6 @@
 use Rattle.std.proofs.Common.{arith, sym, subst}
 use Rattle.std.specs.List.{range_with_len, AllByRecursion}
-use Rattle.dia_defs.specs.Lists.{number_row}
+use Rattle.row_defs.specs.Rows.{number_row}
 use Rattle.row_feed.specs.Growth.{AreShort}
 use Rattle.row_feed.specs.Sources.{source_rows}
 use Rattle.row_feed.specs.declared.source.Source.{Source}

@@ -1,6 +1,6 @@
 use Rattle.std.proofs.Common.{◌≡◌, drop, is_none}
 use Rattle.std.specs.List.{list_any}
-use Rattle.dia_defs.specs.Reading.{earlier_named}
+use Rattle.script_defs.specs.Reading.{earlier_named}
 use Rattle.script_read.specs.Knowing.{known_in}
 use Rattle.script_read.specs.Sentences.{words_in}
 use Rattle.script_read.proofs.causes.is_any_unknown.Given as goal

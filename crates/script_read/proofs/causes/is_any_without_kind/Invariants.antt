@@ -1,6 +1,6 @@
 use Rattle.std.proofs.Common.{◌≡◌, drop, map, is_none}
 use Rattle.std.specs.List.{list_any}
-use Rattle.dia_defs.specs.Values.{expr_kind}
+use Rattle.row_defs.specs.Values.{expr_kind}
 use Rattle.dia_expr.specs.Exprs.{expr_in}
 use Rattle.dia_item.specs.KindList.{kind_list}
 use Rattle.script_read.proofs.causes.is_any_without_kind.Given as goal

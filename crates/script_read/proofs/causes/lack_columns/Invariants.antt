@@ -1,5 +1,5 @@
 use Rattle.std.proofs.Common.{◌≡◌, drop, map}
-use Rattle.dia_defs.specs.Reading.{lack_columns}
+use Rattle.script_defs.specs.Reading.{lack_columns}
 use Rattle.dia_expr.specs.Exprs.{expr_in}
 use Rattle.dia_item.specs.KindList.{kind_list}
 use Rattle.script_read.proofs.causes.lack_columns.Given as goal

@@ -1,6 +1,6 @@
 use Rattle.std.proofs.Common.{◌≡◌, sym, subst, ap, ◌∙◌}
-use Rattle.dia_defs.specs.Pieces.{words_of}
-use Rattle.dia_defs.specs.Reading.{is_printable, is_skipped_words, Sentence, sentence_of}
+use Rattle.row_defs.specs.Pieces.{words_of}
+use Rattle.script_defs.specs.Reading.{is_printable, is_skipped_words, Sentence, sentence_of}
 use Rattle.script_read.specs.Accepting.{AreTexts}
 use Rattle.script_read.specs.Knowing.{known_in}
 use Rattle.script_read.specs.Sentences.{sentence_in, words_in}
@@ -21,4 +21,4 @@ returns c =
     c.parts_of.ensures ∙ ap sentence_of (ap words_in c.as_slice-2.ensures.value ∙ c.in_ok-words.ensures) in
     let stated = sym (ap (λ words. is_skipped_words (words_in words)) c.as_slice.ensures.value ∙ ap is_skipped_words c.in_ok-words.ensures)
     ∙ sym c.is_skipped.ensures ∙ c.if-is_skipped.false in
-    rw (line_reading-parts (known_in c.args.known.now) c.args.line.now c.if-line-gt512.false stated, ← parts) c.read_sentence.ensures
+    rw (line_reading-parts (known_in c.args.known.now) c.args.line.now c.if-line-gt-LINE_LIMIT.false stated, ← parts) c.read_sentence.ensures

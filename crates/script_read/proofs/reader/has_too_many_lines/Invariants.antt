@@ -1,5 +1,5 @@
 use Rattle.std.proofs.Common.{◌≡◌, ◌≤◌, ◌+◌, [], length}
-use Rattle.dia_defs.specs.Pieces.{pieces_from, lines_of}
+use Rattle.row_defs.specs.Pieces.{pieces_from, lines_of}
 use Rattle.script_read.proofs.reader.has_too_many_lines.Given as goal
 
 abbrev pub invariant-loop-rest : goal.invariant-loop-rest

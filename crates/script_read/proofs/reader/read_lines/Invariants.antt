@@ -1,6 +1,6 @@
 use Rattle.std.proofs.Common.{◌≡◌, ◌≤◌, ◌+◌, [], length, map}
-use Rattle.dia_defs.specs.Pieces.{pieces_from, lines_of}
-use Rattle.dia_defs.specs.Reading.{nothing_known, reading_from}
+use Rattle.row_defs.specs.Pieces.{pieces_from, lines_of}
+use Rattle.script_defs.specs.Reading.{nothing_known, reading_from}
 use Rattle.script_read.specs.Answering.{after_all}
 use Rattle.script_read.specs.Knowing.{known_in}
 use Rattle.script_read.specs.Statements.{numbered_in}

@@ -1,37 +1,70 @@
-use Rattle.std.proofs.Common.{ℕ, Result, sym, ap, subst, refl, ◌∙◌}
-use Rattle.dia_defs.specs.declared.cause.Cause.{Cause}
-use Rattle.dia_defs.specs.Scripts.{Script}
-use Rattle.dia_defs.specs.Reading.{reading_of}
+use Rattle.std.proofs.Common.{◌≡◌, ℕ, Result, Option, Some, sym, ap, subst, refl, ◌∙◌}
+use Rattle.row_defs.specs.declared.cause.Cause.{Cause}
+use Rattle.script_defs.specs.Scripts.{Script}
+use Rattle.script_defs.specs.Reading.{reading_of}
+use Rattle.script_read.specs.Answering.{IsReason}
+use Rattle.job_words.specs.declared.fault.TopFault.{TopFault}
 use Rattle.thrill_top.specs.declared.read.TheConstants.{ASKED}
-use Rattle.thrill_top.specs.Ends.{IsScriptReason}
+use Rattle.job_words.specs.Faults.{fault_status}
+use Rattle.thrill_top.specs.Promise.{EndsCall, TellsScript}
 use Rattle.thrill_top.proofs.ReadLemmas.{reading_cut}
-use Rattle.thrill_top.proofs.EndLemmas.{bytes_ends, script_ends, accepted_ends}
+use Rattle.thrill_top.proofs.EndLemmas.{bytes_ends, script_ends, accepted_ends, bytes_tell, script_tells, accepted_tells}
 use Rattle.thrill_top.proofs.job.run_script.Goals as goal
 
 pub returns-in-Err-clause-ends : goal.returns-in-Err-clause-ends
-returns-in-Err-clause-ends g c = λ inputs start tells since.
-    bytes_ends inputs c.args.name.now start _ c.in-Err.f since c.in-Err.ensures.kind (c.in-Err.ensures.absent inputs tells)
+returns-in-Err-clause-ends g c = λ inputs tells.
+    bytes_ends inputs c.args.name.now _ c.fault_of_bytes.result c.in-Err.e c.fault_of_bytes.ensures (c.in-Err.ensures.absent inputs tells)
 
 pub returns-in-Err-read_script-clause-ends : goal.returns-in-Err-read_script-clause-ends
-returns-in-Err-read_script-clause-ends g c = λ inputs start tells since.
+returns-in-Err-read_script-clause-ends g c = λ inputs tells.
     let b = c.in-Ok.ensures.bytes inputs tells in
     let same = ap reading_of (c.as_slice.ensures.value ∙ b.2) ∙ reading_cut b.0 ASKED refl in
-    let Reason : Result Script (ℕ × Cause) → Type 0 = IsScriptReason c.script_fault.result in
-    script_ends inputs c.args.name.now start _ c.script_fault.result b.0 since c.script_fault.ensures.kind
-    (subst Reason same (c.script_fault.ensures.reason _ c.in-Err-read_script.ensures.refused)) b.1
+    let e = c.in-Err-read_script.e in
+    let Reason : Result Script (ℕ × Cause) → Type 0 = IsReason e in
+    let Ends : TopFault → Type 0 = λ f. EndsCall inputs c.args.name.now (g.S.Sink.taken c.args.out.now) (Some f) (g.S.Sink.taken c.args.out.now) in
+    subst Ends (sym c.fault_of_script.ensures)
+    (script_ends inputs c.args.name.now _ e b.0 (subst Reason same c.in-Err-read_script.ensures.refused) b.1)
 
 pub returns-in-Ok-run_accepted-clause-ends : goal.returns-in-Ok-run_accepted-clause-ends
-returns-in-Ok-run_accepted-clause-ends g c = λ inputs start tells since.
+returns-in-Ok-run_accepted-clause-ends g c = λ inputs tells.
     let b = c.in-Ok.ensures.bytes inputs tells in
     let still = c.in-Ok.ensures.fixed tells.1 in
     let same = ap reading_of (c.as_slice.ensures.value ∙ b.2) ∙ reading_cut b.0 ASKED refl in
-    accepted_ends inputs c.args.name.now start _ _ b.0 c.in-Ok-read_script.script b.1 (sym same ∙ c.in-Ok-read_script.ensures.ok)
-    (c.in-Ok-run_accepted.ensures.ends inputs start (still.1 ∙ tells.0, still.0) since)
+    accepted_ends inputs c.args.name.now _ _ _ b.0 c.in-Ok-read_script.script b.1 (sym same ∙ c.in-Ok-read_script.ensures.ok)
+    (c.in-Ok-run_accepted.ensures.ends inputs (still.1 ∙ tells.0, still.0))
 
 pub returns-clause-ends : goal.returns-clause-ends
-returns-clause-ends g c = λ inputs start tells since.
+returns-clause-ends g c = λ inputs tells.
     let b = c.in-Ok.ensures.bytes inputs tells in
     let still = c.in-Ok.ensures.fixed tells.1 in
     let same = ap reading_of (c.as_slice.ensures.value ∙ b.2) ∙ reading_cut b.0 ASKED refl in
-    accepted_ends inputs c.args.name.now start _ _ b.0 c.in-Ok-read_script.script b.1 (sym same ∙ c.in-Ok-read_script.ensures.ok)
-    (c.in-Err-run_accepted.ensures.ends inputs start (still.1 ∙ tells.0, still.0) since)
+    let Ends : TopFault → Type 0 = λ f. EndsCall inputs c.args.name.now (g.S.Sink.taken c.args.out.now) (Some f) (g.S.Sink.taken c.run_accepted.new.out) in
+    subst Ends (sym c.fault_of_run.ensures)
+    (accepted_ends inputs c.args.name.now _ _ _ b.0 c.in-Ok-read_script.script b.1 (sym same ∙ c.in-Ok-read_script.ensures.ok)
+    (c.in-Err-run_accepted.ensures.ends inputs (still.1 ∙ tells.0, still.0)))
+
+pub returns-in-Err-clause-script : goal.returns-in-Err-clause-script
+returns-in-Err-clause-script g c = λ inputs tells.
+    bytes_tell inputs c.args.name.now c.fault_of_bytes.result c.in-Err.e _ refl c.fault_of_bytes.ensures (c.in-Err.ensures.absent inputs tells)
+
+pub returns-in-Err-read_script-clause-script : goal.returns-in-Err-read_script-clause-script
+returns-in-Err-read_script-clause-script g c = λ inputs tells.
+    let b = c.in-Ok.ensures.bytes inputs tells in
+    let same = ap reading_of (c.as_slice.ensures.value ∙ b.2) ∙ reading_cut b.0 ASKED refl in
+    let e = c.in-Err-read_script.e in
+    let Reason : Result Script (ℕ × Cause) → Type 0 = IsReason e in
+    let Tells : TopFault → Type 0 = λ f. TellsScript inputs c.args.name.now (Some f) (fault_status f) (c.args.out.now ≡ c.args.out.now) in
+    subst Tells (sym c.fault_of_script.ensures)
+    (script_tells inputs c.args.name.now e b.0 _ refl (subst Reason same c.in-Err-read_script.ensures.refused) b.1)
+
+pub returns-in-Ok-run_accepted-clause-script : goal.returns-in-Ok-run_accepted-clause-script
+returns-in-Ok-run_accepted-clause-script g c = λ inputs tells.
+    let b = c.in-Ok.ensures.bytes inputs tells in
+    let same = ap reading_of (c.as_slice.ensures.value ∙ b.2) ∙ reading_cut b.0 ASKED refl in
+    accepted_tells inputs c.args.name.now _ _ b.0 c.in-Ok-read_script.script _ b.1 (sym same ∙ c.in-Ok-read_script.ensures.ok)
+
+pub returns-clause-script : goal.returns-clause-script
+returns-clause-script g c = λ inputs tells.
+    let b = c.in-Ok.ensures.bytes inputs tells in
+    let same = ap reading_of (c.as_slice.ensures.value ∙ b.2) ∙ reading_cut b.0 ASKED refl in
+    accepted_tells inputs c.args.name.now _ _ b.0 c.in-Ok-read_script.script _ b.1 (sym same ∙ c.in-Ok-read_script.ensures.ok)

@@ -5,9 +5,9 @@ use Rattle.thrill_top.proofs.read.fill_buffer.Goals as goal
 pub loop-total-preserved : goal.loop-total-preserved
 loop-total-preserved g c = record {
   within = search rules;
-  front = buffer_more (g.N.Shelf.left c.args.shelf.now) (g.N.Shelf.left c.loop-total.shelf) (g.N.Shelf.left c.read.new.self) c.loop-total.buffer
-      c.split_at_mut-room.result.0.now c.read.new.into c.loop-total.total c.in-Ok.n c.loop-total.invariant.front c.split_at_mut-room.ensures.front
-      c.split_at_mut-room.ensures.front_len c.in-Ok.ensures.front;
+  prefix = buffer_more (g.N.Shelf.left c.args.shelf.now) (g.N.Shelf.left c.loop-total.shelf) (g.N.Shelf.left c.read.new.self) c.loop-total.buffer
+      c.split_at_mut-room.result.0.now c.read.new.into c.loop-total.total c.in-Ok.n c.loop-total.invariant.prefix c.split_at_mut-room.ensures.front
+      c.split_at_mut-room.ensures.front_len c.in-Ok.ensures.prefix;
   counts = search rules;
   fixed = search rules;
 }

@@ -1,7 +1,7 @@
 use Rattle.std.proofs.Common.{arith, ◌∙◌, ap, ◌++◌, List, ℕ, Some, length-take}
 use Rattle.dia_item.specs.declared.row_buf.RowBuf.TheInside.{Inside}
 use Rattle.dia_item.specs.Lent.{row_in_ref}
-use Rattle.dia_defs.specs.Rows.{kinds_of}
+use Rattle.row_defs.specs.Rows.{kinds_of}
 use Rattle.dia_item.proofs.BufLemmas.{Copied, copied_row, copied_room}
 use Rattle.dia_item.proofs.row_buf.RowBuf.copy.Goals as goal
 

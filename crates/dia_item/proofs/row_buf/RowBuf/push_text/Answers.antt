@@ -1,8 +1,8 @@
 use Rattle.std.proofs.Common.{arith, refl, ap, ◌∙◌, List, [], ◌∷◌, ◌++◌, ℕ, length, append_assoc, length-append}
-use Rattle.dia_defs.specs.declared.kind.Kind.TheVariants.{Text}
+use Rattle.row_defs.specs.declared.kind.Kind.TheVariants.{Text}
 use Rattle.dia_item.specs.declared.row_buf.RowBuf.TheInside.{Inside}
 use Rattle.dia_item.specs.KindList.{kinds_in}
-use Rattle.dia_defs.specs.Rows.{Row, text, bytes_of_u32}
+use Rattle.row_defs.specs.Rows.{Row, text, bytes_of_u32}
 use Rattle.dia_item.proofs.RowLemmas.{length-row_of}
 use Rattle.dia_item.proofs.Numbers.{length-bytes_of_u32}
 use Rattle.dia_item.proofs.BufLemmas.{Grown, grown_row, grown_room}

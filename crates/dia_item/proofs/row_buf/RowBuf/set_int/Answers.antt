@@ -1,7 +1,7 @@
 use Rattle.std.proofs.Common.{arith, refl, ap, ◌∙◌, List, ℕ, [], ◌∷◌, ◌++◌}
-use Rattle.dia_defs.specs.declared.kind.Kind.TheVariants.{Int}
+use Rattle.row_defs.specs.declared.kind.Kind.TheVariants.{Int}
 use Rattle.dia_item.specs.declared.row_buf.RowBuf.TheInside.{Inside}
-use Rattle.dia_defs.specs.Rows.{int, bytes_of_u64}
+use Rattle.row_defs.specs.Rows.{int, bytes_of_u64}
 use Rattle.dia_item.proofs.BufLemmas.{Copied, copied_row, copied_room, alone}
 use Rattle.dia_item.proofs.row_buf.RowBuf.set_int.Goals as goal
 

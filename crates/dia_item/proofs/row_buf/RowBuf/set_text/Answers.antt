@@ -1,7 +1,7 @@
 use Rattle.std.proofs.Common.{arith, refl, ap, ◌∙◌, List, ℕ, [], ◌∷◌, ◌++◌, length}
-use Rattle.dia_defs.specs.declared.kind.Kind.TheVariants.{Text}
+use Rattle.row_defs.specs.declared.kind.Kind.TheVariants.{Text}
 use Rattle.dia_item.specs.declared.row_buf.RowBuf.TheInside.{Inside}
-use Rattle.dia_defs.specs.Rows.{text, bytes_of_u32}
+use Rattle.row_defs.specs.Rows.{text, bytes_of_u32}
 use Rattle.dia_item.proofs.BufLemmas.{Copied, copied_row, copied_room, alone}
 use Rattle.dia_item.proofs.row_buf.RowBuf.set_text.Goals as goal
 

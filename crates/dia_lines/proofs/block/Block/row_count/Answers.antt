@@ -1,5 +1,5 @@
 use Rattle.std.proofs.Common.{List, ◌∙◌, sym, ap, length, subst}
-use Rattle.dia_defs.specs.Rows.{Row}
+use Rattle.row_defs.specs.Rows.{Row}
 use Rattle.dia_lines.specs.Fitting.{AllFit}
 use Rattle.dia_lines.proofs.FitLemmas.{rows_count, rows_fit}
 use Rattle.dia_lines.proofs.block.Block.row_count.Goals as goal

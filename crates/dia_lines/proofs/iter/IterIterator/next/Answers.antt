@@ -1,7 +1,7 @@
 use Rattle.std.proofs.Common.{◌≡◌, List, [], ◌∷◌, Option, None, Some, sym, ◌∙◌}
 use Rattle.std.specs.Prelude.{IfSome, IfNone}
 use Rattle.std.specs.Iterator.{YieldsFirstBy}
-use Rattle.dia_defs.specs.Rows.{Row}
+use Rattle.row_defs.specs.Rows.{Row}
 use Rattle.dia_item.specs.declared.row_ref.RowRef.{RowRef}
 use Rattle.dia_item.specs.Lent.{row_in_ref}
 use Rattle.dia_lines.proofs.iter.IterIterator.next.Goals as goal

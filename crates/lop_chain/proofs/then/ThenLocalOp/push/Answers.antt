@@ -1,6 +1,6 @@
 use Rattle.dia_item.specs.Lent.{row_in_ref}
 use Rattle.std.proofs.Common.{rules, refl}
-use Rattle.dia_defs.specs.Rows.{kinds_of}
+use Rattle.row_defs.specs.Rows.{kinds_of}
 use Rattle.lop_chain.proofs.Thens.{then_same, then_ok, then_err}
 use Rattle.lop_chain.proofs.then.ThenLocalOp.push.Goals as goal
 

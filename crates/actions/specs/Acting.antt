@@ -1,0 +1,32 @@
+-- Why an action wasn't done, and what the sink took.
+use Rattle.std.specs.Prelude.{◌≡◌, ◌<◌, ◌≤◌, ℕ, List, length, Option}
+use Rattle.row_defs.specs.Limits.{most_rows}
+use Rattle.row_defs.specs.Rows.{Row}
+use Rattle.dia_edge.specs.Counts.{TellsCount}
+use Rattle.dia_edge.specs.Sinks.{TookPrefix}
+use Rattle.actions.specs.declared.action.ActErr.{ActErr}
+use Rattle.actions.specs.declared.action.ActErr.TheVariants.{TooManyRows, Write, NoMemory}
+
+-- on these rows, of which the action's text is this: too many rows arrive, and nothing was taken; or no more than may,
+-- and a write failed after some prefix of the text; or memory ran out before the text began
+abbrev pub Refuses : List Row → List ℕ → ActErr → Option (List ℕ) → Option (List ℕ) → Type 0
+Refuses rows text TooManyRows taken now = (most_rows < length rows) × (now ≡ taken)
+Refuses rows text (Write count) taken now = (length rows ≤ most_rows) × TookPrefix taken text now
+Refuses rows text NoMemory taken now = now ≡ taken
+
+-- the writing of a text was cut off: a write failed after some prefix of it, or memory ran out before it began
+abbrev pub CutsOff : List ℕ → ActErr → Option (List ℕ) → Option (List ℕ) → Type 0
+CutsOff text TooManyRows taken now = ⊥
+CutsOff text (Write count) taken now = TookPrefix taken text now
+CutsOff text NoMemory taken now = now ≡ taken
+
+-- the same of a number that so many rows came to
+abbrev pub RefusesNumber : ℕ → List ℕ → ActErr → Option (List ℕ) → Option (List ℕ) → Type 0
+RefusesNumber rows text TooManyRows taken now = (most_rows < rows) × (now ≡ taken)
+RefusesNumber rows text (Write count) taken now = (rows ≤ most_rows) × TookPrefix taken text now
+RefusesNumber rows text NoMemory taken now = now ≡ taken
+
+-- a failed write tells the count of the sink, which rose
+abbrev pub TellsWrite : ActErr → ℕ → ℕ → Type 0
+TellsWrite (Write count) before now = TellsCount count before now
+TellsWrite _ before now = Unit {0}

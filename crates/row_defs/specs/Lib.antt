@@ -1,0 +1,11 @@
+pub mod Limits
+pub mod Rows
+pub mod Pieces
+pub mod Texts
+pub mod Values
+pub mod Coding
+pub mod Expressions
+pub mod LocalOps
+pub mod Operands
+pub mod Inputs
+pub mod Printed

@@ -1,0 +1,11 @@
+pub mod Limits
+pub mod Words
+pub mod Shapes
+pub mod Scripts
+pub mod Stating
+pub mod Reading
+pub mod Sound
+pub mod Lists
+pub mod Work
+pub mod Plans
+pub mod Runs

@@ -1,0 +1,108 @@
+-- What a line stands on, from what the line that it names stands on.
+use Rattle.std.proofs.Common.{◌≡◌, ℕ, ◌<◌, ◌≤◌, List, [], ◌∷◌, ◌++◌, length, map, None, Some, IsSome, refl, sym, ap, ◌∙◌, subst, arith}
+use Rattle.std.specs.List.{filter_map, cons_option}
+use Rattle.std.proofs.lemmas.Bool.{true≢false}
+use Rattle.row_defs.specs.declared.kind.Kind.{Kind}
+use Rattle.row_defs.specs.Limits.{most_columns}
+use Rattle.row_defs.specs.Values.{Expr, expr_kind}
+use Rattle.row_defs.specs.LocalOps.{LocalOp, map_op, HaveKinds, IsSoundOp, op_kinds, AreSoundOps}
+use Rattle.row_defs.specs.Operands.{Root, Operand, root_line}
+use Rattle.script_defs.specs.Scripts.{Form, lines_form, generate_form, local_form, form_operands, form_kinds, line, Statement, Script, statement_at}
+use Rattle.script_defs.specs.Reading.{Known, nothing_known}
+use Rattle.script_defs.specs.Sound.{kinds_numbered, kinds_of_form, IsSound}
+use Rattle.script_defs.specs.Plans.{IsChain, IsRootOf, IsOperand, known_behind}
+use Rattle.run_laws.proofs.KindLemmas.{IsFormIn, IsLineSound, line_sound}
+use Rattle.stage_builder.specs.Locals.{op_of}
+
+pub local_of : (form : Form) (of : ℕ) → of ∷ [] ≡ form_operands form → form ≡ local_form of (op_of form)
+local_of (lines_form input) of one = let wrong : ⊥ = cc in absurd wrong
+local_of (generate_form count) of one = let wrong : ⊥ = cc in absurd wrong
+local_of (local_form m op) of one = let same : m ≡ of = cc in ap (λ (k : ℕ). local_form k op) same
+
+-- what is known of a local line
+pub local_in : (script : Script) (known : Known) (n of : ℕ) (form : Form) → of ∷ [] ≡ form_operands form → IsLineSound script known n form
+    → IsFormIn script known n (local_form of (op_of form)) × (kinds_numbered known n ≡ op_kinds (kinds_numbered known of) (op_of form))
+local_in script known n of form one s =
+    let is = local_of form of one in
+    let In : Form → Type 0 = λ f. IsFormIn script known n f in
+    let Kinds : Form → Type 0 = λ f. kinds_numbered known n ≡ kinds_of_form known f in
+    (subst In is s.stands, subst Kinds is s.kinds)
+
+-- a line that was found in an accepted script
+pub found_line : (script found : Script) (n : ℕ) (s : Statement) (name : List ℕ) (form : Form) → IsSound nothing_known 1 script → found ≡ script
+    → Some s ≡ statement_at found n → s ≡ line name form
+    → (statement_at script n ≡ Some (line name form)) × IsLineSound script (known_behind nothing_known script) n form
+found_line script found n s name form sound same at is =
+    let here = ap (λ (x : Script). statement_at x n) (sym same) ∙ sym at ∙ ap (λ (x : Statement). Some x) is in
+    (here, line_sound script n name form sound here)
+
+-- one more local line
+ops_more : (from to : List Kind) (ops : List LocalOp) (op : LocalOp) → AreSoundOps from ops to → IsSoundOp to op → AreSoundOps from (ops ++ op ∷ []) (op_kinds to op)
+ops_more from to [] op are sound =
+    let Sound : List Kind → Type 0 = λ ks. IsSoundOp ks op in
+    (subst Sound (sym are) sound, ap (λ (ks : List Kind). op_kinds ks op) are)
+ops_more from to (first ∷ ops) op are sound = (are.0, ops_more (op_kinds from first) to ops op are.1 sound)
+
+chain_more : (script : Script) (root m n : ℕ) (ops : List LocalOp) (op : LocalOp) (name : List ℕ) → IsChain script root ops m
+    → statement_at script n ≡ Some (line name (local_form m op)) → IsChain script root (ops ++ op ∷ []) n
+chain_more script root m n [] op name chain is =
+    let At : ℕ → Type 0 = λ k. statement_at script n ≡ Some (line name (local_form k op)) in
+    (n, name, subst At (sym chain) is, refl)
+chain_more script root m n (first ∷ ops) op name chain is = (chain.0, chain.1, chain.2, chain_more script chain.0 m n ops op name chain.3 is)
+
+-- a line that names no other
+pub root_operand : (script : Script) (n : ℕ) (name : List ℕ) (form : Form) (o : Operand) → statement_at script n ≡ Some (line name form) → form_operands form ≡ []
+    → IsLineSound script (known_behind nothing_known script) n form → IsRootOf form o.root → root_line o.root ≡ n → form_kinds [] form ≡ o.kinds → o.chain ≡ []
+    → IsOperand script n o
+root_operand script n name form o is none s root number kinds chain =
+    let known = known_behind nothing_known script in
+    let Chain : List LocalOp → Type 0 = λ ops. IsChain script (root_line o.root) ops n in
+    let Sound : List LocalOp → Type 0 = λ ops. AreSoundOps (form_kinds [] form) ops o.kinds in
+    record {
+      name = name;
+      form = form;
+      is = ap (statement_at script) number ∙ is;
+      root = root;
+      chain = subst Chain (sym chain) number;
+      kinds = sym (s.kinds ∙ ap (λ (ks : List ℕ). form_kinds (map (kinds_numbered known) ks) form) none ∙ kinds);
+      sound = subst Sound (sym chain) kinds;
+    }
+
+-- a local line over another
+pub local_operand : (script : Script) (n of : ℕ) (name : List ℕ) (form : Form) (o p : Operand) → statement_at script n ≡ Some (line name form) → of ∷ [] ≡ form_operands form
+    → IsLineSound script (known_behind nothing_known script) n form → IsOperand script of o → p.root ≡ o.root → p.kinds ≡ op_kinds o.kinds (op_of form)
+    → p.chain ≡ o.chain ++ op_of form ∷ [] → IsOperand script n p
+local_operand script n of name form o p is one s under root kinds chain =
+    let known = known_behind nothing_known script in
+    let op = op_of form in
+    let l = local_in script known n of form one s in
+    let here = is ∙ ap (λ (f : Form). Some (line name f)) (local_of form of one) in
+    let Root' : Root → Type 0 = λ r. statement_at script (root_line r) ≡ Some (line under.name under.form) in
+    let RootOf : Root → Type 0 = λ r. IsRootOf under.form r in
+    let Chain : List LocalOp → Type 0 = λ ops. IsChain script (root_line p.root) ops n in
+    let From : Root → Type 0 = λ r. IsChain script (root_line r) (o.chain ++ op ∷ []) n in
+    let Ops : List LocalOp → Type 0 = λ ops. AreSoundOps (form_kinds [] under.form) ops p.kinds in
+    let To : List Kind → Type 0 = λ ks. AreSoundOps (form_kinds [] under.form) (o.chain ++ op ∷ []) ks in
+    let Sound : List Kind → Type 0 = λ ks. IsSoundOp ks op in
+    record {
+      name = under.name;
+      form = under.form;
+      is = subst Root' (sym root) under.is;
+      root = subst RootOf (sym root) under.root;
+      chain = subst Chain (sym chain) (subst From (sym root) (chain_more script (root_line o.root) of n o.chain op name under.chain here));
+      kinds = kinds ∙ ap (λ (ks : List Kind). op_kinds ks op) under.kinds ∙ sym l.1;
+      sound = subst Ops (sym chain) (subst To (sym kinds) (ops_more (form_kinds [] under.form) o.kinds o.chain op under.sound (subst Sound (sym under.kinds) l.0.2)));
+    }
+
+-- each column of a sound map has a kind
+kinds_count : (kinds : List Kind) (exprs : List Expr) → HaveKinds kinds exprs → length (filter_map (expr_kind kinds) exprs) ≡ length exprs
+kinds_count kinds [] have = refl
+kinds_count kinds (e ∷ exprs) have =
+    elim (expr_kind kinds e) as (λ o. IsSome o → length (cons_option o (filter_map (expr_kind kinds) exprs)) ≡ length (e ∷ exprs)) [
+      | None ↦ λ some. absurd (true≢false (sym some))
+      | Some k ↦ λ some. let more = kinds_count kinds exprs have.1 in omega (arith, more)
+    ] have.0
+
+pub map_kinds : (kinds : List Kind) (exprs : List Expr) → IsSoundOp kinds (map_op exprs)
+    → (0 < length (filter_map (expr_kind kinds) exprs)) × (length (filter_map (expr_kind kinds) exprs) ≤ most_columns)
+map_kinds kinds exprs sound = let count = kinds_count kinds exprs sound.0 in (omega (arith, count, sound.1), omega (arith, count, sound.2))
