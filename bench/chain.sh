@@ -9,13 +9,13 @@ count=${1:-10000000}
 runs=5
 
 say "proving and building both programs ..."
-copy_repository lop_chain dia_expr dia_text dia_item dia_defs dia_edge
+copy_repository lop_chain dia_expr dia_text dia_item row_defs dia_edge
 crate=$work/repository/crates/bench_chain
 mkdir -p "$crate/src" "$crate/specs" "$crate/proofs/push_numbers"
 cp "$here/chain/main.rt.txt" "$crate/src/main.rt"
 cp "$here/chain/Invariants.antt.txt" "$crate/proofs/push_numbers/Invariants.antt"
 cp "$here/chain/Answers.antt.txt" "$crate/proofs/push_numbers/Answers.antt"
-echo 'bench_chain: lop_chain dia_expr dia_item dia_edge dia_defs' >>"$work/repository/crates.txt"
+echo 'bench_chain: lop_chain dia_expr dia_item dia_edge row_defs' >>"$work/repository/crates.txt"
 rustc --edition 2021 -O -o "$work/plain" "$here/chain/plain.rs"
 in_crate bench_chain rt run -- 1
 proved=$crate/out/bench_chain

@@ -9,7 +9,7 @@ count=${1:-1000000}
 runs=9
 
 say "building both programs ..."
-copy_repository dia_expr dia_text dia_item dia_defs dia_edge
+copy_repository dia_expr dia_text dia_item row_defs dia_edge
 mkdir -p "$work/repository/crates/bench_expr/src"
 cp "$here/expr/main.rt.txt" "$work/repository/crates/bench_expr/src/main.rt"
 echo 'bench_expr: dia_expr dia_item' >>"$work/repository/crates.txt"

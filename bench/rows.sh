@@ -10,10 +10,10 @@ rounds=${1:-60}
 runs=7
 
 say "building both programs (the proof of the one takes about a minute) ..."
-copy_repository dia_item dia_defs dia_edge
+copy_repository dia_item row_defs dia_edge
 mkdir -p "$work/repository/crates/bench_rows/src"
 cp "$here/rows/main.rt.txt" "$work/repository/crates/bench_rows/src/main.rt"
-echo 'bench_rows: dia_item dia_defs dia_edge' >>"$work/repository/crates.txt"
+echo 'bench_rows: dia_item row_defs dia_edge' >>"$work/repository/crates.txt"
 rustc -O -o "$work/plain" "$here/rows/plain.rs"
 "$work/plain" make "$work/rows" "$rows"
 in_crate bench_rows rt run -- "$work/rows" 1

@@ -9,7 +9,7 @@ count=${1:-100}
 runs=9
 
 say "building the program ..."
-copy_repository script_read dia_expr dia_text dia_item dia_defs dia_edge
+copy_repository script_read script_defs dia_expr dia_text dia_item row_defs dia_edge
 mkdir -p "$work/repository/crates/bench_script/src"
 cp "$here/script/main.rt.txt" "$work/repository/crates/bench_script/src/main.rt"
 echo 'bench_script: script_read' >>"$work/repository/crates.txt"
