@@ -9,8 +9,9 @@ use Rattle.std.proofs.lemmas.List.Concat.{flat_map-append}
 use Rattle.std.proofs.lemmas.Nat.{le-div}
 use Rattle.std.specs.List.{flat_map}
 use Rattle.collective.specs.Shares.{share_start, HasPlace, share_of, shares_of}
+use Rattle.collective.specs.Laws.{AreWithoutGap, IsOwner}
 
--- The end of a share is the start of the next one by definition; the first starts at 0, and the last ends at the total.
+-- The end of a share is the start of the next one by definition; the first starts at 0, the last ends at the total, and none ends before it starts.
 pub start_first : (total workers : ℕ) → share_start total workers 0 ≡ 0
 start_first total workers = let none : total * 0 ≡ 0 = omega arith in rw none (zero-div workers)
 
@@ -28,6 +29,13 @@ start_within total workers rank some le =
     let ordered : share_start total workers rank ≤ share_start total workers workers = start_ordered total workers rank workers some le in
     let last : share_start total workers workers ≡ total = start_last total workers some in
     omega (arith, ordered, last)
+
+pub without_gap : (total workers : ℕ) → 0 < workers → AreWithoutGap total workers
+without_gap total workers some = record {
+  first = start_first total workers;
+  ordered = λ rank within. start_ordered total workers rank (rank + 1) some (omega arith);
+  last = start_last total workers some;
+}
 
 -- each position has an owner ..
 owner_below : (total workers place n : ℕ) → place < share_start total workers n → (rank : ℕ) × (rank < n) × HasPlace total workers rank place
@@ -62,6 +70,17 @@ one_owner total workers place a b some p q =
             absurd (omega (arith, up, q.1, p.0))
       ]
     ]
+
+pub its_owner : (total workers place : ℕ) → 0 < workers → place < total → (rank : ℕ) × IsOwner total workers place rank
+its_owner total workers place some less =
+    let found = has_owner total workers place some less in (
+      found.0,
+      record {
+        within = found.1;
+        has = found.2;
+        alone = λ other has. one_owner total workers place other found.0 some has found.2;
+      },
+    )
 
 module _ {A : Type 0} (xs : List A) (workers : ℕ) (some : 0 < workers) where
   shares_joined_up_to : (n : ℕ) → flat_map (λ share. share) (shares_of xs workers n) ≡ take (share_start (length xs) workers n) xs

@@ -1,15 +1,18 @@
 //! Numbers that workers agree on without a word: where each one's part begins, which positions are whose, and who has
 //! a position.
 //!
-//! The layer above relies on the arithmetic, and on the laws in `proofs/ShareLaws.antt`: shares meet without a gap,
-//! each position has one owner, and the shares of a list, joined, are the list. The words stand in
-//! `specs/Shares.antt`.
+//! The layer above relies on the arithmetic, and on the laws, each the contract of a function that does nothing: shares
+//! meet without a gap, each position has one owner, and the shares of a list, joined, are the list. The words stand in
+//! `specs/`: Shares for what a share is, Laws for the laws.
 #![tactic(auto)]
 
 ghost use Rattle.std.specs.Prelude.{◌≡◌, ℕ, ◌<◌, ◌≤◌, ◌+◌, ◌*◌, ◌/◌, length, sum, take, IfOk, slice_index};
 ghost use Rattle.collective.specs.Shares.{share_start, HasPlace};
 
+mod laws;
+
 use dia_edge::NoMemory;
+pub use laws::{places_have_one_owner, shares_are_the_list, shares_meet};
 use std::alloc::Global;
 
 /// The largest sum of counts.

@@ -1,6 +1,6 @@
 //! Worked cases.
 
-use crate::{exclusive, owner, share};
+use crate::{exclusive, owner, places_have_one_owner, share, shares_are_the_list, shares_meet};
 use std::test::Fail;
 
 #[test]
@@ -31,4 +31,11 @@ fn each_place_is_its_owners(rt: HostRuntime) {
             assert_eq!(rt; owner(total, workers, end - 1), rank, "of {end}");
         }
     }
+}
+
+#[test]
+fn laws_are_called() {
+    shares_meet();
+    places_have_one_owner();
+    shares_are_the_list::<u8>();
 }
