@@ -1,0 +1,40 @@
+use Rattle.std.proofs.Common.{List, refl, sym, ap, ◌∙◌}
+use Rattle.std.specs.VecDeque.{deque_len}
+use Rattle.dia_item.specs.KindList.{kind_list}
+use Rattle.dia_file.specs.declared.sealed.Sealed.{Sealed}
+use Rattle.dia_file.specs.declared.consume.ConsumeReader.TheInside.{Inside}
+use Rattle.dia_file.specs.Frames.{blocks_of}
+use Rattle.dia_file.specs.Files.{FileValue}
+use Rattle.dia_file.specs.Places.{pins}
+use Rattle.dia_file.specs.Consumers.{spot}
+use Rattle.dia_file.proofs.EndLemmas.{Begins, begins_file, has_begun}
+use Rattle.dia_file.proofs.file.File.consume.Goals as goal
+
+pub invariant_of-result : goal.invariant_of-result
+invariant_of-result c =
+    let f = c.self.inside in
+    let e = c.before_all.ensures in
+    let r : Inside = record { kinds = f.kinds; place = c.before_all.result; at = 0; here = 0; kept = 0 } in
+    let b : Begins (spot r) = record { hidden = record { shown = e.hidden; here = refl }; ahead = e.ahead ∙ ap (λ x. deque_len x) (sym e.ring); at = refl; kept = refl } in
+    let h = has_begun (kind_list f.kinds) (spot r) f.sealed.items f.rows f.bytes c.self.invariant b (ap (λ x. x.items) e.ring) in
+    record { reading = h.reading; frees = e.after }
+
+pub returns-clause-left : goal.returns-clause-left
+returns-clause-left c =
+    let f = c.self.inside in
+    let e = c.before_all.ensures in
+    let r : Inside = record { kinds = f.kinds; place = c.before_all.result; at = 0; here = 0; kept = 0 } in
+    let b : Begins (spot r) = record { hidden = record { shown = e.hidden; here = refl }; ahead = e.ahead ∙ ap (λ x. deque_len x) (sym e.ring); at = refl; kept = refl } in
+    let h = has_begun (kind_list f.kinds) (spot r) f.sealed.items f.rows f.bytes c.self.invariant b (ap (λ x. x.items) e.ring) in
+    h.left ∙ ap (λ (x : FileValue). x.rows) c.self.view_is
+
+pub returns-clause-blocks : goal.returns-clause-blocks
+returns-clause-blocks c =
+    let f = c.self.inside in
+    let e = c.before_all.ensures in
+    let r : Inside = record { kinds = f.kinds; place = c.before_all.result; at = 0; here = 0; kept = 0 } in
+    let b : Begins (spot r) = record { hidden = record { shown = e.hidden; here = refl }; ahead = e.ahead ∙ ap (λ x. deque_len x) (sym e.ring); at = refl; kept = refl } in
+    ap (λ (xs : List Sealed). blocks_of xs) (begins_file (spot r) b ∙ ap (λ x. x.items) e.ring) ∙ ap (λ (x : FileValue). x.blocks) c.self.view_is
+
+pub returns-clause-pinned : goal.returns-clause-pinned
+returns-clause-pinned c = ap pins c.before_all.ensures.hidden

@@ -1,0 +1,9 @@
+use Rattle.std.proofs.Common.{length}
+use Rattle.dia_file.proofs.Spreading.{PutSoFar}
+use Rattle.dia_file.proofs.sealed.put_over.Given as goal
+
+abbrev pub invariant-loop-rest : goal.invariant-loop-rest
+invariant-loop-rest g l = PutSoFar l.fn.hand l.fn.sealed.items l.fn.bytes l.hand l.sealed.items l.frame l.rest
+
+abbrev pub decreases-loop-rest : goal.decreases-loop-rest
+decreases-loop-rest g l = length l.rest

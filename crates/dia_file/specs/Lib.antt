@@ -1,0 +1,11 @@
+pub mod Encoding
+pub mod Pieces
+pub mod Frames
+pub mod Weighing
+pub mod Writers
+pub mod Refusals
+pub mod Files
+pub mod Places
+pub mod Readers
+pub mod Consumers
+pub mod Cuts

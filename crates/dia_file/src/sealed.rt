@@ -1,0 +1,197 @@
+//! Bytes that are put into blocks, one after the other.
+ghost use Rattle.std.specs.Prelude.{◌≡◌, ◌+◌, ◌<◌, ◌≤◌, ◌++◌, ◌∷◌, [], ℕ, List, length, take, drop, None, IfOk, OnOk, OnErr, IfErr, IfSome};
+ghost use Rattle.block_pool.specs.Handles.{Follows, RefusesFrame};
+ghost use Rattle.dia_file.specs.Frames.{frame_bytes, frames, IsFrameIn, sealed_of, Spread, IsPut, IsTorn, AreBlocksOf};
+
+use block_pool::{BlockRef, Frame, FrameErr, Hand};
+use dia_edge::{Disk, NoMemory};
+use std::collections::VecDeque;
+use std::sync::Wait;
+
+/// A block, how many rows end in it, and how many bytes it has.
+#[derive(Drop)]
+pub(crate) struct Sealed {
+    pub(crate) block: BlockRef,
+    pub(crate) ends: usize,
+    pub(crate) len: usize,
+}
+
+/// Seals the frame that is written, if there is one, in which so many rows end.
+pub(crate) fn seal_frame<R: Wait, D: Disk>(
+    rt: &R,
+    hand: &mut Hand<'_, D>,
+    sealed: &mut VecDeque<Sealed>,
+    frame: &mut Option<Frame>,
+    ends: usize,
+) -> Result<(), NoMemory>
+    requires own { IsFrameIn hand.old.pool frame.old }
+    ensures frame { OnOk result (frame.new ≡ None) }
+    ensures sealed { OnOk result (sealed.new.items ≡ sealed.old.items ++ sealed_of frame.old ends) }
+    ensures kept { OnErr result (sealed.new.items ≡ sealed.old.items) }
+    ensures frame_kept { OnErr result (frame.new ≡ frame.old) }
+    ensures permits { hand.new.permits + frames frame.new ≡ hand.old.permits + frames frame.old }
+    ensures follows { Follows hand.old hand.new }
+{
+    let Some(written) = frame.take() else {
+        return Ok(());
+    };
+    if sealed.reserve(1).is_err() {
+        *frame = Some(written);
+        return Err(NoMemory);
+    }
+    let len = written.bytes().len();
+    match hand.seal(rt, written) {
+        Err((written, refusal)) => {
+            *frame = Some(written);
+            Err(refusal)
+        }
+        Ok(block) => {
+            sealed.push_back_reserved(Sealed { block, ends, len });
+            Ok(())
+        }
+    }
+}
+
+/// Puts a front of the bytes into a new frame, as much as fits, and answers the rest.
+fn put_prefix<'b, R: Wait, D: Disk>(
+    rt: &R,
+    hand: &mut Hand<'_, D>,
+    frame: &mut Option<Frame>,
+    bytes: &'b [u8],
+) -> Result<&'b [u8], FrameErr>
+    requires permit { 0 < hand.old.permits }
+    requires none { frame.old ≡ None }
+    requires some { 0 < length bytes.now }
+    ensures parts { IfOk result (λ rest. frame_bytes frame.new ++ rest.now ≡ bytes.now) }
+    ensures some { OnOk result (0 < length (frame_bytes frame.new)) }
+    ensures one { OnOk result (frames frame.new ≡ 1) }
+    ensures own { IsFrameIn hand.old.pool frame.new }
+    ensures none { OnErr result (frame.new ≡ None) }
+    ensures permits { hand.new.permits + frames frame.new ≡ hand.old.permits }
+    ensures refused { IfErr result (λ e. RefusesFrame hand.old.notes hand.new.notes e) }
+    ensures follows { Follows hand.old hand.new }
+{
+    let mut next = hand.frame(rt)?;
+    let n = bytes.len().min(next.room());
+    let (piece, rest) = bytes.split_at(n);
+    next.put(piece);
+    *frame = Some(next);
+    Ok(rest)
+}
+
+/// Puts the bytes into new frames, one after the other. The last frame stays open.
+pub(crate) fn put_over<R: Wait, D: Disk>(
+    rt: &R,
+    hand: &mut Hand<'_, D>,
+    sealed: &mut VecDeque<Sealed>,
+    frame: &mut Option<Frame>,
+    bytes: &[u8],
+) -> Result<(), FrameErr>
+    requires permit { 0 < hand.old.permits }
+    requires none { frame.old ≡ None }
+    requires some { 0 < length bytes.now }
+    ensures ok { OnOk result (Spread hand.old.pool sealed.old.items sealed.new.items (frame_bytes frame.new) bytes.now) }
+    ensures some { OnOk result (0 < length (frame_bytes frame.new)) }
+    ensures err { OnErr result ((rest : List ℕ) × Spread hand.old.pool sealed.old.items sealed.new.items rest bytes.now) }
+    ensures own { IsFrameIn hand.old.pool frame.new }
+    ensures permits { hand.new.permits + frames frame.new ≡ hand.old.permits }
+    ensures refused { IfErr result (λ e. RefusesFrame hand.old.notes hand.new.notes e) }
+    ensures follows { Follows hand.old hand.new }
+{
+    let mut rest = match put_prefix(rt, hand, frame, bytes) {
+        Ok(more) => more,
+        Err(refusal) => return Err(refusal),
+    };
+    while !rest.is_empty() {
+        match seal_frame(rt, hand, sealed, frame, 0) {
+            Ok(()) => {}
+            Err(NoMemory) => return Err(FrameErr::NoMemory),
+        }
+        match put_prefix(rt, hand, frame, rest) {
+            Ok(more) => rest = more,
+            Err(refusal) => return Err(refusal),
+        }
+    }
+    Ok(())
+}
+
+/// Puts the bytes of a row where the frame that is written has room for them, else into new frames.
+#[inline(always)]
+pub(crate) fn put_row<R: Wait, D: Disk>(
+    rt: &R,
+    hand: &mut Hand<'_, D>,
+    sealed: &mut VecDeque<Sealed>,
+    frame: &mut Option<Frame>,
+    ends: &mut usize,
+    bytes: &[u8],
+) -> Result<(), FrameErr>
+    requires permit { 0 < hand.old.permits + frames frame.old }
+    requires own { IsFrameIn hand.old.pool frame.old }
+    requires some { 0 < length bytes.now }
+    ensures ok { OnOk result (IsPut hand.old.pool sealed.old.items frame.old ends.old sealed.new.items frame.new ends.new bytes.now) }
+    ensures some { OnOk result (0 < length (frame_bytes frame.new)) }
+    ensures err { OnErr result (IsTorn hand.old.pool sealed.old.items frame.old ends.old sealed.new.items frame.new ends.new bytes.now) }
+    ensures own { IsFrameIn hand.old.pool frame.new }
+    ensures permits { hand.new.permits + frames frame.new ≡ hand.old.permits + frames frame.old }
+    ensures refused { IfErr result (λ e. RefusesFrame hand.old.notes hand.new.notes e) }
+    ensures follows { Follows hand.old hand.new }
+{
+    match frame {
+        Some(written) if bytes.len() <= written.room() => {
+            written.put(bytes);
+            Ok(())
+        }
+        _ => put_anew(rt, hand, sealed, frame, ends, bytes),
+    }
+}
+
+/// Seals the frame that is written, and puts the bytes of a row into new ones.
+#[cold]
+#[inline(never)]
+fn put_anew<R: Wait, D: Disk>(
+    rt: &R,
+    hand: &mut Hand<'_, D>,
+    sealed: &mut VecDeque<Sealed>,
+    frame: &mut Option<Frame>,
+    ends: &mut usize,
+    bytes: &[u8],
+) -> Result<(), FrameErr>
+    requires permit { 0 < hand.old.permits + frames frame.old }
+    requires own { IsFrameIn hand.old.pool frame.old }
+    requires some { 0 < length bytes.now }
+    ensures ok { OnOk result (Spread hand.old.pool (sealed.old.items ++ sealed_of frame.old ends.old) sealed.new.items (frame_bytes frame.new) bytes.now) }
+    ensures ends { OnOk result (ends.new ≡ 0) }
+    ensures some { OnOk result (0 < length (frame_bytes frame.new)) }
+    ensures err { OnErr result (IsTorn hand.old.pool sealed.old.items frame.old ends.old sealed.new.items frame.new ends.new bytes.now) }
+    ensures own { IsFrameIn hand.old.pool frame.new }
+    ensures permits { hand.new.permits + frames frame.new ≡ hand.old.permits + frames frame.old }
+    ensures refused { IfErr result (λ e. RefusesFrame hand.old.notes hand.new.notes e) }
+    ensures follows { Follows hand.old hand.new }
+{
+    match seal_frame(rt, hand, sealed, frame, *ends) {
+        Ok(()) => {}
+        Err(NoMemory) => return Err(FrameErr::NoMemory),
+    }
+    *ends = 0;
+    put_over(rt, hand, sealed, frame, bytes)
+}
+
+/// Frees blocks.
+pub(crate) fn free_all<R: Wait, D: Disk>(
+    rt: &R,
+    hand: &mut Hand<'_, D>,
+    sealed: &mut VecDeque<Sealed>,
+)
+    requires own { AreBlocksOf hand.old.pool sealed.old.items }
+    ensures permits { hand.new.permits ≡ hand.old.permits }
+    ensures follows { Follows hand.old hand.new }
+{
+    while let Some(front) = sealed.pop_front() {
+        let Sealed {
+            block,
+            ends: _,
+            len: _,
+        } = front;
+        hand.free(rt, block);
+    }
+}
