@@ -20,11 +20,11 @@ CutsOff text TooManyRows taken now = ⊥
 CutsOff text (Write count) taken now = TookPrefix taken text now
 CutsOff text NoMemory taken now = now ≡ taken
 
--- the same of a number that so many rows came to
-abbrev pub RefusesNumber : ℕ → List ℕ → ActErr → Option (List ℕ) → Option (List ℕ) → Type 0
-RefusesNumber rows text TooManyRows taken now = (most_rows < rows) × (now ≡ taken)
-RefusesNumber rows text (Write count) taken now = (rows ≤ most_rows) × TookPrefix taken text now
-RefusesNumber rows text NoMemory taken now = now ≡ taken
+-- nothing is written: of these rows too many arrive, or memory ran out
+abbrev pub WritesNothing : List Row → ActErr → Type 0
+WritesNothing rows TooManyRows = most_rows < length rows
+WritesNothing rows (Write count) = ⊥
+WritesNothing rows NoMemory = Unit {0}
 
 -- a failed write tells the count of the sink, which rose
 abbrev pub TellsWrite : ActErr → ℕ → ℕ → Type 0

@@ -1,19 +1,21 @@
 //! The rows that arrive at an action, counted and added up.
-ghost use Rattle.std.specs.Prelude.{◌≡◌, ◌<◌, ◌≤◌, true, false, Some, slice_get, length, List, IfOk};
+ghost use Rattle.std.specs.Prelude.{◌≡◌, ◌<◌, ◌≤◌, Some, slice_get, length, List, IfOk, IfErr, OnOk, OnErr};
 ghost use Rattle.row_defs.specs.declared.kind.Kind.{Kind};
 ghost use Rattle.row_defs.specs.declared.kind.Kind.TheVariants.{Int};
 ghost use Rattle.row_defs.specs.Limits.{most_rows};
 ghost use Rattle.row_defs.specs.Printed.{column_sum};
 ghost use Rattle.lop_chain.specs.Chains.{chain_ops};
 ghost use Rattle.lop_chain.specs.Ops.{ops_in};
-ghost use Rattle.row_feed.specs.Sinks.{counted};
+ghost use Rattle.actions.specs.Acting.{WritesNothing};
 ghost use Rattle.actions.specs.Arriving.{Arrives, rows_arriving};
 
+use crate::action::ActErr;
+use crate::buffers::Buffers;
 use dia_edge::NoMemory;
 use dia_item::RowBuf;
 use lop_chain::{Chain, ScriptOp};
 use row_defs::limits::MOST_ROWS;
-use row_feed::{Counter, Source, Summer, feed, most_made};
+use row_feed::{Counter, Extent, Source, Summer, TooManyRows, extent_of, feed};
 use std::alloc::Global;
 use std::sync::Wait;
 
@@ -34,65 +36,100 @@ fn copy_ops(alloc: Global, ops: &[ScriptOp]) -> Result<Vec<ScriptOp>, NoMemory>
     Ok(copies)
 }
 
-/// How many rows arrive; a count that is too great for 64 bits stands still.
-pub(crate) fn count<R: Wait>(
+/// So many rows may arrive, or are too many.
+fn few(rows: u64) -> Result<(), TooManyRows>
+    ensures few { OnOk result (rows ≤ most_rows) }
+    ensures many { OnErr result (most_rows < rows) }
+{
+    if rows > MOST_ROWS {
+        return Err(TooManyRows);
+    }
+    Ok(())
+}
+
+/// How many rows arrive, counted one by one.
+fn count<R: Wait>(
     rt: &R,
-    alloc: Global,
+    source: &Source<'_>,
+    chain: &mut Chain,
+    room: &mut RowBuf,
+) -> Result<u64, TooManyRows>
+    requires { (kinds : List Kind) × Arrives (chain_ops chain.old) source.now kinds }
+    ensures count { IfOk result (λ n. n ≡ length (rows_arriving (chain_ops chain.old) source.now)) }
+    ensures few { IfOk result (λ n. n ≤ most_rows) }
+    ensures many { OnErr result (most_rows < length (rows_arriving (chain_ops chain.old) source.now)) }
+    ensures same { chain_ops chain.new ≡ chain_ops chain.old }
+{
+    let mut counter = Counter::new();
+    feed(rt, source, chain, room, &mut (), &mut counter)?;
+    Ok(counter.rows)
+}
+
+/// How many rows arrive. They are counted only where that isn't known at once.
+pub(crate) fn size<R: Wait>(
+    rt: &R,
     source: &Source<'_>,
     ops: &[ScriptOp],
-) -> Result<u64, NoMemory>
+    buffers: &mut Buffers,
+) -> Result<u64, ActErr>
     requires { (kinds : List Kind) × Arrives (ops_in ops.now) source.now kinds }
-    ensures { IfOk result (λ n. counted 0 (length (rows_arriving (ops_in ops.now) source.now)) n) }
+    ensures size { IfOk result (λ n. n ≡ length (rows_arriving (ops_in ops.now) source.now)) }
+    ensures few { IfOk result (λ n. n ≤ most_rows) }
+    ensures waits { buffers.new.text ≡ buffers.old.text }
+    ensures refused { IfErr result (λ e. WritesNothing (rows_arriving (ops_in ops.now) source.now) e) }
 {
-    let mut chain = chain_of(alloc, ops)?;
-    let mut room = RowBuf::new(alloc)?;
-    let mut counter = Counter { rows: 0 };
-    match feed(rt, source, &mut chain, &mut room, &mut (), &mut counter) {
-        Ok(()) => Ok(counter.rows),
-        Err(_) => unreachable!(),
+    match extent_of(source, ops) {
+        Extent::Exactly(rows) => {
+            few(rows)?;
+            Ok(rows)
+        }
+        Extent::AtMost(_) => {
+            let mut chain = chain_of(buffers.alloc, ops)?;
+            let rows = count(rt, source, &mut chain, &mut buffers.row)?;
+            Ok(rows)
+        }
     }
 }
 
-/// The sum of a column modulo 2^64, and how many rows arrive.
-pub(crate) fn total<R: Wait>(
+/// The sum of a column modulo 2^64.
+pub(crate) fn sum<R: Wait>(
     rt: &R,
-    alloc: Global,
     source: &Source<'_>,
-    ops: &[ScriptOp],
+    chain: &mut Chain,
+    room: &mut RowBuf,
     column: u32,
-) -> Result<(u64, u64), NoMemory>
-    requires { (kinds : List Kind) × Arrives (ops_in ops.now) source.now kinds × (slice_get kinds column ≡ Some Int) }
-    ensures sum { IfOk result (λ t. t.0 ≡ column_sum column (rows_arriving (ops_in ops.now) source.now)) }
-    ensures rows { IfOk result (λ t. counted 0 (length (rows_arriving (ops_in ops.now) source.now)) t.1) }
+) -> Result<u64, TooManyRows>
+    requires { (kinds : List Kind) × Arrives (chain_ops chain.old) source.now kinds × (slice_get kinds column ≡ Some Int) }
+    ensures sum { IfOk result (λ n. n ≡ column_sum column (rows_arriving (chain_ops chain.old) source.now)) }
+    ensures few { OnOk result (length (rows_arriving (chain_ops chain.old) source.now) ≤ most_rows) }
+    ensures many { OnErr result (most_rows < length (rows_arriving (chain_ops chain.old) source.now)) }
 {
-    let mut chain = chain_of(alloc, ops)?;
-    let mut room = RowBuf::new(alloc)?;
-    let mut summer = Summer {
-        column: column as usize,
-        sum: 0,
-        rows: 0,
-    };
-    match feed(rt, source, &mut chain, &mut room, &mut (), &mut summer) {
-        Ok(()) => Ok((summer.sum, summer.rows)),
-        Err(_) => unreachable!(),
+    if let Extent::Exactly(rows) = extent_of(source, chain.ops()) {
+        few(rows)?;
     }
+    let mut summer = Summer::new(column as usize);
+    feed(rt, source, chain, room, &mut (), &mut summer)?;
+    Ok(summer.sum)
 }
 
-/// Whether no more rows arrive than may. They are counted only where the number of the source's rows and the lines don't
-/// show it.
-pub(crate) fn are_few<R: Wait>(
+/// Sees that no more rows arrive than may. They are counted only where that isn't known at once.
+pub(crate) fn check_few<R: Wait>(
     rt: &R,
-    alloc: Global,
     source: &Source<'_>,
-    ops: &[ScriptOp],
-) -> Result<bool, NoMemory>
-    requires { (kinds : List Kind) × Arrives (ops_in ops.now) source.now kinds }
-    ensures few { IfOk result (λ few. few ≡ true → length (rows_arriving (ops_in ops.now) source.now) ≤ most_rows) }
-    ensures many { IfOk result (λ few. few ≡ false → most_rows < length (rows_arriving (ops_in ops.now) source.now)) }
+    chain: &mut Chain,
+    room: &mut RowBuf,
+) -> Result<(), TooManyRows>
+    requires { (kinds : List Kind) × Arrives (chain_ops chain.old) source.now kinds }
+    ensures few { OnOk result (length (rows_arriving (chain_ops chain.old) source.now) ≤ most_rows) }
+    ensures many { OnErr result (most_rows < length (rows_arriving (chain_ops chain.old) source.now)) }
+    ensures same { chain_ops chain.new ≡ chain_ops chain.old }
 {
-    if most_made(source, ops) <= MOST_ROWS {
-        return Ok(true);
+    match extent_of(source, chain.ops()) {
+        Extent::Exactly(rows) => few(rows),
+        Extent::AtMost(rows) if rows <= MOST_ROWS => Ok(()),
+        Extent::AtMost(_) => {
+            count(rt, source, chain, room)?;
+            Ok(())
+        }
     }
-    let rows = count(rt, alloc, source, ops)?;
-    Ok(rows <= MOST_ROWS)
 }

@@ -6,6 +6,8 @@
 
 mod action;
 mod arriving;
+mod buffers;
 mod writing;
 
 pub use action::{ActErr, act};
+pub use buffers::Buffers;

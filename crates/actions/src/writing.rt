@@ -1,23 +1,20 @@
 //! What actions write.
-ghost use Rattle.std.specs.Prelude.{◌≡◌, ◌≤◌, List, OnOk, OnErr, IfErr};
+ghost use Rattle.std.specs.Prelude.{◌≡◌, ◌≤◌, [], List, OnOk, IfErr};
 ghost use Rattle.row_defs.specs.declared.kind.Kind.{Kind};
 ghost use Rattle.row_defs.specs.Printed.{number_line};
-ghost use Rattle.dia_edge.specs.Counts.{HasRisen};
-ghost use Rattle.dia_edge.specs.Sinks.{TookAll, TookPrefix};
-ghost use Rattle.lop_chain.specs.Ops.{ops_in};
+ghost use Rattle.dia_edge.specs.Sinks.{TookAll};
+ghost use Rattle.lop_chain.specs.Chains.{chain_ops};
 ghost use Rattle.row_feed.specs.Sinks.{texts_of_rows};
 ghost use Rattle.actions.specs.Arriving.{Arrives, rows_arriving};
 ghost use Rattle.actions.specs.Acting.{TellsWrite, CutsOff};
 
 use crate::action::ActErr;
-use crate::arriving::chain_of;
-use dia_edge::{Failed, NoMemory, Sink};
-use dia_item::RowBuf;
-use lop_chain::ScriptOp;
+use crate::buffers::Buffers;
+use dia_edge::{Failed, Sink};
+use lop_chain::Chain;
 use row_feed::{Source, print_all};
-use std::alloc::Global;
 use std::sync::Wait;
-use text_out::{OutBuffer, put_pieces};
+use text_out::put_pieces;
 
 /// A number on a line of its own.
 pub(crate) fn put_number<S: Sink>(n: u64, out: &mut S) -> Result<(), ActErr>
@@ -36,24 +33,23 @@ pub(crate) fn put_number<S: Sink>(n: u64, out: &mut S) -> Result<(), ActErr>
     }
 }
 
-/// Prints the rows that arrive, through a buffer.
+/// Prints the rows that arrive, through an empty buffer.
 pub(crate) fn print_rows<R: Wait, S: Sink>(
     rt: &R,
-    alloc: Global,
     source: &Source<'_>,
-    ops: &[ScriptOp],
+    chain: &mut Chain,
+    buffers: &mut Buffers,
     out: &mut S,
 ) -> Result<(), ActErr>
-    requires { (kinds : List Kind) × Arrives (ops_in ops.now) source.now kinds }
-    ensures ok { OnOk result (TookAll (S.taken out.old) (texts_of_rows (rows_arriving (ops_in ops.now) source.now)) (S.taken out.new)) }
-    ensures cut { IfErr result (λ e. CutsOff (texts_of_rows (rows_arriving (ops_in ops.now) source.now)) e (S.taken out.old) (S.taken out.new)) }
+    requires rows { (kinds : List Kind) × Arrives (chain_ops chain.old) source.now kinds }
+    requires empty { buffers.old.text ≡ [] }
+    ensures ok { OnOk result (TookAll (S.taken out.old) (texts_of_rows (rows_arriving (chain_ops chain.old) source.now)) (S.taken out.new)) }
+    ensures cut { IfErr result (λ e. CutsOff (texts_of_rows (rows_arriving (chain_ops chain.old) source.now)) e (S.taken out.old) (S.taken out.new)) }
+    ensures empty { OnOk result (buffers.new.text ≡ []) }
     ensures told { IfErr result (λ e. TellsWrite e (S.faults out.old) (S.faults out.new)) }
     ensures counts { S.faults out.old ≤ S.faults out.new }
 {
-    let mut chain = chain_of(alloc, ops)?;
-    let mut room = RowBuf::new(alloc)?;
-    let mut buffer = OutBuffer::new(alloc)?;
-    match print_all(rt, source, &mut chain, &mut room, &mut buffer, out) {
+    match print_all(rt, source, chain, &mut buffers.row, &mut buffers.text, out) {
         Ok(()) => Ok(()),
         Err(Failed) => Err(ActErr::Write {
             count: out.fault_count(),

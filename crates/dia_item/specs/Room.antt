@@ -1,5 +1,6 @@
 -- A buffer with room for every row.
 use Rattle.std.specs.Prelude.{◌*◌, ◌≤◌, length, vec_capacity}
+use Rattle.row_defs.specs.Limits.{most_columns}
 use Rattle.dia_item.specs.declared.row_buf.RowBuf.TheInside.{Inside}
 use Rattle.row_defs.specs.Rows.{Row, IsRow}
 use Rattle.dia_item.specs.Reading.{row_of}
@@ -11,6 +12,6 @@ row_in b = row_of (kinds_in b.kinds) b.bytes.items
 
 pub record HasRoom (b : Inside) : Type 0 where
   pub is : IsRow (kinds_in b.kinds) b.bytes.items (row_in b)
-  pub columns : length (kinds_in b.kinds) ≤ 6
+  pub columns : length (kinds_in b.kinds) ≤ most_columns
   pub len : length b.bytes.items ≤ longest_field * length (kinds_in b.kinds)
   pub room : longest_row ≤ vec_capacity b.bytes

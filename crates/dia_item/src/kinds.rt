@@ -26,12 +26,21 @@ impl Kinds {
         if kinds.is_empty() || kinds.len() > MOST_COLUMNS {
             return None;
         }
+        Some(Kinds::of(kinds))
+    }
+
+    /// These kinds, which are some, and no more than six.
+    pub fn of(kinds: &[Kind]) -> Kinds
+        requires some { 0 < length kinds.now }
+        requires most { length kinds.now ≤ MOST_COLUMNS }
+        ensures { kind_list result ≡ kinds.now }
+    {
         let mut all = [Kind::Int; MOST_COLUMNS];
         all[..kinds.len()].copy_from_slice(kinds);
-        Some(Kinds {
+        Kinds {
             all,
             count: kinds.len(),
-        })
+        }
     }
 
     /// This one kind.

@@ -6,6 +6,7 @@
 //! has what follows for every row. `specs/Reading.antt` is of this crate alone.
 #![tactic(auto)]
 
+mod appending;
 mod field;
 mod kinds;
 mod laws;
@@ -16,6 +17,7 @@ mod reading;
 mod row_buf;
 mod row_ref;
 
+pub use appending::append;
 pub use field::Field;
 pub use kinds::Kinds;
 pub use laws::{

@@ -5,6 +5,7 @@ ghost use Rattle.dia_item.specs.Lent.{row_in_ref};
 ghost use Rattle.row_defs.specs.Rows.{int, text, bytes_of_u64, bytes_of_u32};
 ghost use Rattle.row_defs.specs.Limits.{longest_text};
 
+use crate::appending::append;
 use crate::kinds::Kinds;
 use crate::row_ref::RowRef;
 use dia_edge::NoMemory;
@@ -54,20 +55,6 @@ fn set_kind(kinds: &mut Option<Kinds>, kind: Kind)
     match kinds {
         Some(kinds) if kinds.is_one(kind) => {}
         _ => *kinds = Some(Kinds::one(kind)),
-    }
-}
-
-// Bytes that there is room for.
-#[inline]
-fn append(bytes: &mut Vec<u8>, more: &[u8])
-    requires { vec_len bytes.old + length more.now ≤ vec_capacity bytes.old }
-    ensures items { bytes.new.items ≡ bytes.old.items ++ more.now }
-    ensures len { vec_len bytes.new ≡ vec_len bytes.old + length more.now }
-    ensures capacity { vec_capacity bytes.old ≤ vec_capacity bytes.new }
-{
-    let done = bytes.extend_from_slice(more);
-    if done.is_err() {
-        unreachable!()
     }
 }
 

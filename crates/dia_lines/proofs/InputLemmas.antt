@@ -1,21 +1,23 @@
 -- What an input holds and how far it was read.
-use Rattle.std.proofs.Common.{◌≡◌, ℕ, suc, ◌+◌, ◌-◌, ◌<◌, ◌≤◌, Bool, true, List, [], ◌∷◌, ◌++◌, length, take, cond, Option, None, Some, IfSome, refl, sym, ap, ◌∙◌, subst, arith, append_assoc, append-nil, length-append, add-zero}
+use Rattle.std.proofs.Common.{◌≡◌, ℕ, suc, ◌+◌, ◌-◌, ◌<◌, ◌≤◌, Bool, true, List, [], ◌∷◌, ◌++◌, length, take, cond, Option, None, Some, IfSome, refl, sym, ap, ◌∙◌, subst, arith, append_assoc, append-nil, length-append, add-zero, Result, Ok, Err, OnOk, IsSome}
 use Rattle.std.proofs.lemmas.List.{take_all}
 use Rattle.std.proofs.Math.Seq.{take-append-add, take-append_seam}
-use Rattle.std.proofs.lemmas.Bool.{and_parts, leb-true, le-leb, lt-ltb, le-ltb}
+use Rattle.std.proofs.lemmas.Bool.{true≢false, and_parts, leb-true, le-leb, lt-ltb, le-ltb}
 use Rattle.std.specs.List.{list_all, position_from}
-use Rattle.row_defs.specs.Rows.{Row}
 use Rattle.row_defs.specs.Limits.{longest_text, longest_input}
-use Rattle.row_defs.specs.Pieces.{pieces_from, lines_of, line_rows}
+use Rattle.row_defs.specs.Pieces.{pieces_from, lines_of}
 use Rattle.row_defs.specs.Inputs.{is_long, line_too_long, input_too_long, failure_of_input, failure_of_long_line}
-use Rattle.dia_edge.specs.Shelves.{GivesPrefix, IsShut}
-use Rattle.dia_lines.specs.declared.taker.Taker.{Taker}
-use Rattle.dia_lines.specs.declared.taker.TakeErr as take_errors
-use Rattle.dia_lines.specs.declared.taker.TakeErr.TheVariants as takes
-use Rattle.dia_lines.specs.declared.input.InputErr as errors
-use Rattle.dia_lines.specs.declared.input.InputErr.TheVariants.{InputTooLong}
-use Rattle.dia_lines.specs.Taking.{is_text, AreTaken, HasTaken, IsLong, IsCut, AreRead}
-use Rattle.dia_lines.specs.Inputs.{IsReading, IsInputReason, IsReasonOf, IsInput}
+use Rattle.dia_edge.specs.Shelves.{Holdings, GivesPrefix, IsShut, IsOpened, and_asked}
+use Rattle.dia_edge.specs.declared.shelf.Shelf as shelves
+use Rattle.dia_edge.proofs.ShelfLemmas.{asked_none}
+use Rattle.dia_lines.specs.declared.line_taker.LineTaker.{Ghosts}
+use Rattle.dia_lines.specs.declared.cutter.Cutter.{Cutter}
+use Rattle.dia_lines.specs.declared.cutter.TakeErr.{TakeErr}
+use Rattle.dia_lines.specs.declared.cutter.TakeErr.TheVariants as takes
+use Rattle.dia_lines.specs.declared.input.InputErr.{InputErr}
+use Rattle.dia_lines.specs.declared.input.InputErr.TheVariants.{Missing, LineTooLong, InputTooLong, Refused, Read, NoMemory}
+use Rattle.dia_lines.specs.Taking.{is_text, AreTaken, HasTaken, IsLong, IsTurnedAway, IsCut, TookAllOf}
+use Rattle.dia_lines.specs.Inputs.{AskedSome, Asks, IsReading, IsInputReason, TookInput, reason_of}
 use Rattle.dia_lines.proofs.TakeLemmas.{list_all-push}
 
 take-append-past : (n : ℕ) (xs ys : List ℕ) → length xs ≤ n → take n (xs ++ ys) ≡ xs ++ take (n - length xs) ys
@@ -73,91 +75,158 @@ block_past seen rest all some texts =
     ap (λ (o : Option ℕ). failure_of_long_line o (seen ++ rest)) (past_input longest_input seen rest all texts)
     ∙ ap (λ (t : Bool). cond t (Some input_too_long) None) (lt-ltb longest_input (length (seen ++ rest)) (omega arith))
 
--- the lines so far may all be texts, the last one too
-seen_texts : (rows : List Row) (lines : ℕ) (run seen : List ℕ) → AreTaken rows lines run seen → length run ≤ longest_text → list_all is_text (lines_of seen) ≡ true
-unfolding pieces_from
-seen_texts rows lines [] seen h short =
-    let whole : h.done ≡ lines_of seen = sym (append-nil h.done) ∙ h.pieces [] ∙ ap lines_of (append-nil seen) in
-    let All : List (List ℕ) → Type 0 = λ ls. list_all is_text ls ≡ true in
-    subst All whole h.texts
-seen_texts rows lines (b ∷ run) seen h short =
-    let whole : h.done ++ (b ∷ run) ∷ [] ≡ lines_of seen = h.pieces [] ∙ ap lines_of (append-nil seen) in
-    let All : List (List ℕ) → Type 0 = λ ls. list_all is_text ls ≡ true in
-    subst All whole (list_all-push h.done (b ∷ run) h.texts (le-leb (length (b ∷ run)) longest_text short))
+-- nothing is left, so all bytes were seen
+all_seen : (bytes : List ℕ) (left : Option (List ℕ)) (seen : List ℕ) → GivesPrefix (Some bytes) seen left → IsShut left → bytes ≡ seen
+all_seen bytes left seen gives end =
+    let none = subst IsShut gives.2 end in
+    gives.1 ∙ ap (λ (xs : List ℕ). seen ++ xs) none ∙ append-nil seen
 
--- one more piece
-prefix_more : (all left now : Option (List ℕ)) (seen piece : List ℕ) → GivesPrefix all seen left → GivesPrefix left piece now → GivesPrefix all (seen ++ piece) now
-prefix_more None left now seen piece a b = tt
-prefix_more (Some bytes) left now seen piece a b =
-    let Gives : Option (List ℕ) → Type 0 = λ o. GivesPrefix o piece now in
-    let c = subst Gives a.2 b in
-    (c.0, a.1 ∙ ap (λ (xs : List ℕ). seen ++ xs) c.1 ∙ sym (append_assoc seen piece c.0), c.2)
+module _ {T D R : Type 0} (g : Ghosts T D R) where
+  -- the lines so far may all be texts, the last one too
+  seen_texts : (began now : T) (ended : ℕ) (run seen : List ℕ) → AreTaken g began now ended run seen → length run ≤ longest_text → list_all is_text (lines_of seen) ≡ true
+  unfolding pieces_from
+  seen_texts began now ended [] seen h short =
+      let whole : h.done ≡ lines_of seen = sym (append-nil h.done) ∙ h.pieces [] ∙ ap lines_of (append-nil seen) in
+      let All : List (List ℕ) → Type 0 = λ ls. list_all is_text ls ≡ true in
+      subst All whole h.texts
+  seen_texts began now ended (b ∷ run) seen h short =
+      let whole : h.done ++ (b ∷ run) ∷ [] ≡ lines_of seen = h.pieces [] ∙ ap lines_of (append-nil seen) in
+      let All : List (List ℕ) → Type 0 = λ ls. list_all is_text ls ≡ true in
+      subst All whole (list_all-push h.done (b ∷ run) h.texts (le-leb (length (b ∷ run)) longest_text short))
 
-pub reading_more : (all left now : Option (List ℕ)) (t u : Taker) (total n : ℕ) (piece : List ℕ) → IsReading all t total left
-    → GivesPrefix left piece now → length piece ≡ n → ((seen : List ℕ) → HasTaken t seen → HasTaken u (seen ++ piece)) → IsReading all u (total + n) now
-reading_more all left now t u total n piece h gives len taken =
-    let longer = length-append h.seen piece in
-    record {
-      seen = h.seen ++ piece;
-      taken = taken h.seen h.taken;
-      count = omega (arith, h.count);
-      prefix = prefix_more all left now h.seen piece h.prefix gives;
-    }
+  -- one more piece
+  prefix_more : (all left now : Option (List ℕ)) (seen piece : List ℕ) → GivesPrefix all seen left → GivesPrefix left piece now → GivesPrefix all (seen ++ piece) now
+  prefix_more None left now seen piece a b = tt
+  prefix_more (Some bytes) left now seen piece a b =
+      let Gives : Option (List ℕ) → Type 0 = λ o. GivesPrefix o piece now in
+      let c = subst Gives a.2 b in
+      (c.0, a.1 ∙ ap (λ (xs : List ℕ). seen ++ xs) c.1 ∙ sym (append_assoc seen piece c.0), c.2)
 
--- a line of the piece is too long
-pub reading_long : (e : take_errors.TakeErr) (told : errors.InputErr) (all left now : Option (List ℕ)) (t : Taker) (total : ℕ) (piece : List ℕ)
-    → IsReading all t total left → GivesPrefix left piece now → total + length piece ≤ longest_input
-    → ((seen : List ℕ) → HasTaken t seen → IsCut e seen piece) → IsReasonOf e told → IfSome all (λ bytes. IsInputReason told (Some bytes))
-reading_long e told None left now t total piece h gives few cut is = tt
-reading_long (takes.LineTooLong n) told (Some bytes) left now t total piece h gives few cut is =
-    let whole = prefix_more (Some bytes) left now h.seen piece h.prefix gives in
-    let c = cut h.seen h.taken in
-    let parts : bytes ≡ (h.seen ++ c.prefix) ++ (c.rest ++ whole.0) =
-    whole.1 ∙ ap (λ (xs : List ℕ). (h.seen ++ xs) ++ whole.0) c.parts
-    ∙ ap (λ (xs : List ℕ). xs ++ whole.0) (sym (append_assoc h.seen c.prefix c.rest))
-    ∙ append_assoc (h.seen ++ c.prefix) c.rest whole.0 in
-    let longer = length-append h.seen c.prefix in
-    let cut_len = ap length c.parts ∙ length-append c.prefix c.rest in
-    let Reason : errors.InputErr → Type 0 = λ r. IsInputReason r (Some bytes) in
-    subst Reason (sym is) (ap (λ (xs : List ℕ). failure_of_input (Some xs)) parts ∙ block_long n (h.seen ++ c.prefix) (c.rest ++ whole.0) (omega (arith, h.count)) c.reason)
-reading_long takes.NoMemory told (Some bytes) left now t total piece h gives few cut is =
-    let Reason : errors.InputErr → Type 0 = λ r. IsInputReason r (Some bytes) in
-    subst Reason (sym is) tt
+  pub reading_more : (all left now : Option (List ℕ)) (began t u : T) (c d : Cutter) (total n : ℕ) (piece : List ℕ) → IsReading g all began t c total left
+      → GivesPrefix left piece now → length piece ≡ n → ((began : T) (seen : List ℕ) → HasTaken g began t c seen → HasTaken g began u d (seen ++ piece)) → IsReading g all began u d (total + n) now
+  reading_more all left now began t u c d total n piece h gives len taken =
+      let longer = length-append h.seen piece in
+      record {
+        seen = h.seen ++ piece;
+        taken = taken began h.seen h.taken;
+        count = omega (arith, h.count);
+        prefix = prefix_more all left now h.seen piece h.prefix gives;
+      }
 
--- there is one more byte than an input may have
-pub reading_past : (all left now : Option (List ℕ)) (t : Taker) (total : ℕ) (piece : List ℕ)
-    → IsReading all t total left → total ≡ longest_input → GivesPrefix left piece now → 0 < length piece → length t.run.items ≤ longest_text
-    → IfSome all (λ bytes. IsInputReason InputTooLong (Some bytes))
-reading_past None left now t total piece h limit gives some short = tt
-reading_past (Some bytes) left now t total piece h limit gives some short =
-    let Gives : Option (List ℕ) → Type 0 = λ o. GivesPrefix o piece now in
-    let c = subst Gives h.prefix.2 gives in
-    let rest_len = ap length c.1 ∙ length-append piece c.0 in
-    ap (λ (xs : List ℕ). failure_of_input (Some xs)) h.prefix.1
-    ∙ block_past h.seen h.prefix.0 (h.count ∙ limit) (omega arith) (seen_texts t.rows t.lines t.run.items h.seen h.taken short)
+  -- a line of the piece is too long, or was refused
+  pub reading_cut : (e : TakeErr R) (all left now : Option (List ℕ)) (began t u : T) (a b : D) (c : Cutter) (total : ℕ) (piece : List ℕ)
+      → IsReading g all began t c total left → GivesPrefix left piece now → total + length piece ≤ longest_input
+      → ((began : T) (seen : List ℕ) → HasTaken g began t c seen → IsCut g began a u b e seen piece)
+      → IfSome all (λ bytes. IsInputReason g began a u b (reason_of e) (Some bytes))
+  reading_cut e None left now began t u a b c total piece h gives few cut = tt
+  reading_cut (takes.LineTooLong n) (Some bytes) left now began t u a b c total piece h gives few cut =
+      let whole = prefix_more (Some bytes) left now h.seen piece h.prefix gives in
+      let q = cut began h.seen h.taken in
+      let parts : bytes ≡ (h.seen ++ q.prefix) ++ (q.rest ++ whole.0) =
+      whole.1 ∙ ap (λ (xs : List ℕ). (h.seen ++ xs) ++ whole.0) q.parts
+      ∙ ap (λ (xs : List ℕ). xs ++ whole.0) (sym (append_assoc h.seen q.prefix q.rest))
+      ∙ append_assoc (h.seen ++ q.prefix) q.rest whole.0 in
+      let longer = length-append h.seen q.prefix in
+      let cut_len = ap length q.parts ∙ length-append q.prefix q.rest in
+      ap (λ (xs : List ℕ). failure_of_input (Some xs)) parts ∙ block_long n (h.seen ++ q.prefix) (q.rest ++ whole.0) (omega (arith, h.count)) q.reason
+  reading_cut (takes.Refused e) (Some bytes) left now began t u a b c total piece h gives few cut =
+      let whole = prefix_more (Some bytes) left now h.seen piece h.prefix gives in
+      let q = cut began h.seen h.taken in
+      let parts : bytes ≡ (h.seen ++ q.prefix) ++ (q.rest ++ whole.0) =
+      whole.1 ∙ ap (λ (xs : List ℕ). (h.seen ++ xs) ++ whole.0) q.parts
+      ∙ ap (λ (xs : List ℕ). xs ++ whole.0) (sym (append_assoc h.seen q.prefix q.rest))
+      ∙ append_assoc (h.seen ++ q.prefix) q.rest whole.0 in
+      let Away : List ℕ → Type 0 = λ xs. IsTurnedAway g began a u b e xs in
+      subst Away (sym parts) (q.reason (q.rest ++ whole.0))
 
-prefix_none : (left : Option (List ℕ)) → GivesPrefix left [] left
-prefix_none None = tt
-prefix_none (Some bytes) = (bytes, refl, refl)
+  -- there is one more byte than an input may have
+  pub reading_past : (all left now : Option (List ℕ)) (began t : T) (c : Cutter) (a b : D) (total : ℕ) (piece : List ℕ)
+      → IsReading g all began t c total left → total ≡ longest_input → GivesPrefix left piece now → 0 < length piece → length c.run.items ≤ longest_text
+      → IfSome all (λ bytes. IsInputReason g began a t b InputTooLong (Some bytes))
+  reading_past None left now began t c a b total piece h limit gives some short = tt
+  reading_past (Some bytes) left now began t c a b total piece h limit gives some short =
+      let Gives : Option (List ℕ) → Type 0 = λ o. GivesPrefix o piece now in
+      let q = subst Gives h.prefix.2 gives in
+      let rest_len = ap length q.1 ∙ length-append piece q.0 in
+      ap (λ (xs : List ℕ). failure_of_input (Some xs)) h.prefix.1
+      ∙ block_past h.seen h.prefix.0 (h.count ∙ limit) (omega arith) (seen_texts began t c.ended c.run.items h.seen h.taken short)
 
--- nothing was read
-pub reading_none : (t : Taker) (left : Option (List ℕ)) → HasTaken t [] → IsReading left t 0 left
-reading_none t left taken = record { seen = []; taken = taken; count = refl; prefix = prefix_none left }
+  prefix_none : (left : Option (List ℕ)) → GivesPrefix left [] left
+  prefix_none None = tt
+  prefix_none (Some bytes) = (bytes, refl, refl)
 
--- all was read
-pub reading_end : (all left : Option (List ℕ)) (t : Taker) (total : ℕ) (rows : List Row) → IsReading all t total left → total ≤ longest_input
-    → IsShut left → ((seen : List ℕ) → HasTaken t seen → AreRead rows seen) → IfSome all (λ bytes. IsInput rows (Some bytes))
-reading_end None left t total rows h few end read = tt
-reading_end (Some bytes) left t total rows h few end read =
-    let Shut : Option (List ℕ) → Type 0 = IsShut in
-    let none = subst Shut h.prefix.2 end in
-    let same : bytes ≡ h.seen = h.prefix.1 ∙ ap (λ (xs : List ℕ). h.seen ++ xs) none ∙ append-nil h.seen in
-    let r = read h.seen h.taken in
-    let All : List ℕ → Type 0 = λ xs. list_all is_text (lines_of xs) ≡ true in
-    let len = ap length same in
-    record {
-      bytes = bytes;
-      there = refl;
-      lines = r.lines ∙ ap line_rows (sym same);
-      free = block_free bytes (omega (arith, h.count)) (subst All (sym same) r.texts);
-    }
+  -- nothing was read
+  pub reading_none : (t : T) (c : Cutter) (left : Option (List ℕ)) → HasTaken g t t c [] → IsReading g left t t c 0 left
+  reading_none t c left taken = record { seen = []; taken = taken; count = refl; prefix = prefix_none left }
+
+  -- all was read
+  pub reading_end : (all left : Option (List ℕ)) (began t u : T) (c : Cutter) (total : ℕ) → IsReading g all began t c total left → total ≤ longest_input
+      → IsShut left → ((began : T) (seen : List ℕ) → HasTaken g began t c seen → TookAllOf g began u seen) → IfSome all (λ bytes. TookInput g began u (Some bytes))
+  reading_end None left began t u c total h few end read = tt
+  reading_end (Some bytes) left began t u c total h few end read =
+      let r = read began h.seen h.taken in
+      let same = all_seen bytes left h.seen h.prefix end in
+      let All : List ℕ → Type 0 = λ xs. list_all is_text (lines_of xs) ≡ true in
+      let Took : List ℕ → Type 0 = λ xs. g.took began (lines_of xs) u in
+      let len = ap length same in
+      record {
+        bytes = bytes;
+        there = refl;
+        took = subst Took (sym same) r.took;
+        free = block_free bytes (omega (arith, h.count)) (subst All (sym same) r.texts);
+      }
+
+  -- all was read, and the last line was refused
+  pub reading_refused : (all left : Option (List ℕ)) (began t u : T) (a b : D) (c : Cutter) (total : ℕ) (e : R) → IsReading g all began t c total left
+      → IsShut left → ((began : T) (seen : List ℕ) → HasTaken g began t c seen → IsTurnedAway g began a u b e seen)
+      → IfSome all (λ bytes. IsInputReason g began a u b (Refused e) (Some bytes))
+  reading_refused None left began t u a b c total e h end away = tt
+  reading_refused (Some bytes) left began t u a b c total e h end away =
+      let Away : List ℕ → Type 0 = λ xs. IsTurnedAway g began a u b e xs in
+      subst Away (sym (all_seen bytes left h.seen h.prefix end)) (away began h.seen h.taken)
+
+  -- a refusal, seen from an earlier desk
+  pub input_from :
+      ((s t : T) (a b c : D) (line : List ℕ) (e : R) → g.follows a b → g.refused s b line e t c → g.refused s a line e t c)
+      → (e : InputErr R) (all : Option (List ℕ)) (began u : T) (a m b : D) → g.follows a m
+      → IfSome all (λ bytes. IsInputReason g began m u b e (Some bytes)) → IfSome all (λ bytes. IsInputReason g began a u b e (Some bytes))
+  input_from from e None began u a m b f is = tt
+  input_from from Missing (Some bytes) began u a m b f is = is
+  input_from from (LineTooLong n) (Some bytes) began u a m b f is = is
+  input_from from InputTooLong (Some bytes) began u a m b f is = is
+  input_from from (Refused e) (Some bytes) began u a m b f is = record {
+    done = is.done;
+    line = is.line;
+    later = is.later;
+    at = is.at;
+    took = is.took;
+    refused = from is.at u a m b is.line e f is.refused;
+    lines = is.lines;
+  }
+  input_from from (Read count) (Some bytes) began u a m b f is = tt
+  input_from from NoMemory (Some bytes) began u a m b f is = tt
+
+  took_held : (held : Option (List ℕ)) (began u : T) → IsSome held → IfSome held (λ bytes. TookInput g began u (Some bytes)) → TookInput g began u held
+  took_held None began u some took = absurd (true≢false (sym some))
+  took_held (Some bytes) began u some took = took
+
+  -- what was left when the name was opened is what it holds
+  pub opened_took : {V E : Type 0} (r : Result V E) (holds now : Option Holdings) (name : List ℕ) (left : Option (List ℕ)) (began u : T) → holds ≡ now → IsOpened holds name left
+      → OnOk r (IfSome left (λ bytes. TookInput g began u (Some bytes))) → OnOk r (IfSome now (λ held. TookInput g began u (held name)))
+  opened_took (Err e) holds now name left began u same opened took = tt
+  opened_took (Ok v) None now name left began u same opened took =
+      let Is : Option Holdings → Type 0 = λ o. IfSome o (λ held. TookInput g began u (held name)) in subst Is same tt
+  opened_took (Ok v) (Some held) now name left began u same opened took =
+      let Is : Option Holdings → Type 0 = λ o. IfSome o (λ h. TookInput g began u (h name)) in
+      let Left : Option (List ℕ) → Type 0 = λ o. IfSome o (λ bytes. TookInput g began u (Some bytes)) in
+      subst Is same (took_held (held name) began u opened.0 (subst Left opened.1 took))
+
+-- the name that was opened is the one that was asked for
+pub asked_here : {V E N : Type 0} (s : shelves.Ghosts N) (r : Result V E) (old at now : N) (name : List ℕ) → s.asked at ≡ and_asked (s.asked old) (name ∷ []) → s.asked now ≡ s.asked at
+    → Asks s old now (name ∷ []) r
+asked_here s (Ok v) old at now name asked same = same ∙ asked
+asked_here s (Err e) old at now name asked same = ([], record { done = name ∷ []; parts = refl; is = same ∙ asked })
+
+-- nothing was asked for
+pub asked_nothing : {N : Type 0} (s : shelves.Ghosts N) (old now : N) (names : List (List ℕ)) → s.asked now ≡ s.asked old → AskedSome s old now names
+asked_nothing s old now names same = (names, record { done = []; parts = refl; is = same ∙ asked_none (s.asked old) })

@@ -6,6 +6,7 @@ ghost use Rattle.row_defs.specs.Pieces.{line_row};
 ghost use Rattle.dia_lines.specs.Fitting.{AllFit};
 
 use dia_edge::NoMemory;
+use dia_item::append;
 use std::alloc::Global;
 use std::marker::Model;
 
@@ -29,20 +30,6 @@ impl Model for Block {
     ghost view = { λ b. rows_from b.rows b.bytes.items };
 
     ghost invariant = { λ b. HoldsRows b.rows b.bytes.items };
-}
-
-// Bytes that there is room for.
-#[inline(always)]
-fn append(bytes: &mut Vec<u8>, more: &[u8])
-    requires { vec_len bytes.old + length more.now ≤ vec_capacity bytes.old }
-    ensures items { bytes.new.items ≡ bytes.old.items ++ more.now }
-    ensures len { vec_len bytes.new ≡ vec_len bytes.old + length more.now }
-    ensures capacity { vec_capacity bytes.old ≤ vec_capacity bytes.new }
-{
-    let done = bytes.extend_from_slice(more);
-    if done.is_err() {
-        unreachable!()
-    }
 }
 
 // The row of the text that is `prefix` and then `suffix`, where there is memory for it.
@@ -82,13 +69,6 @@ impl Block {
         ensures fit { AllFit self.now }
     {
         self.rows
-    }
-
-    /// Whether the block has room for a row of a text of this length. Nothing rests on it but where a row goes.
-    pub(crate) fn has_room(&self, len: usize) -> bool
-        requires { len ≤ longest_text }
-    {
-        self.bytes.capacity() - self.bytes.len() >= 4 + len
     }
 
     /// One more row, of the text that is `prefix` and then `suffix`.

@@ -1,20 +1,21 @@
 //! Reads an input.
-ghost use Rattle.std.specs.Prelude.{◌≡◌, ◌+◌, ◌≤◌, ◌<◌, ◌^◌, ◌++◌, [], true, ℕ, List, Option, Some, length, IfOk, IfErr, IfSome, is_some, min};
-ghost use Rattle.row_defs.specs.Limits.{longest_input};
-ghost use Rattle.dia_edge.specs.Counts.{HasRisen};
-ghost use Rattle.dia_edge.specs.Shelves.{GivesPrefix, IsAtEnd};
-ghost use Rattle.dia_lines.specs.Taking.{HasTaken, AreRead};
-ghost use Rattle.dia_lines.specs.Inputs.{IsInputReason, IsReading, IsInput, IsReadFault, IsReasonOf};
+ghost use Rattle.std.specs.Prelude.{◌≡◌, ◌+◌, ◌≤◌, ◌<◌, ◌∷◌, [], true, ℕ, List, Option, Some, length, OnOk, OnErr, IfOk, IfErr, IfSome};
+ghost use Rattle.row_defs.specs.Pieces.{line_rows};
+ghost use Rattle.dia_edge.specs.Shelves.{IsAtEnd};
+ghost use Rattle.dia_lines.specs.Taking.{HasTaken, TookAllOf};
+ghost use Rattle.dia_lines.specs.Inputs.{Stays, Asks, IsInputReason, IsReading, TookInput, TookOpened, IsReadFault, IsInput, IsInputCause, reason_of};
 
+use crate::cutter::{Cutter, TakeErr};
 use crate::line_rows::LineRows;
-use crate::taker::{TakeErr, Taker};
+use crate::line_taker::LineTaker;
 use dia_edge::{Failed, Name, NoMemory, Shelf};
 use row_defs::limits::LONGEST_INPUT;
-use std::alloc::{AllocError, Global};
+use std::alloc::Global;
+use std::sync::Wait;
 
 /// Why an input wasn't read.
 #[derive(Clone, Copy, Debug, PartialEq, Eq)]
-pub enum InputErr {
+pub enum InputErr<E> {
     /// The shelf has no such input.
     Missing,
     /// This line, from 1, is the first within the most bytes of an input that has more bytes than a text may have.
@@ -24,6 +25,8 @@ pub enum InputErr {
     },
     /// There is no such line, and the input has more than 2^32 bytes.
     InputTooLong,
+    /// The taker refused one of its lines.
+    Refused(E),
     /// The shelf failed.
     Read {
         /// Its count of faults now.
@@ -33,24 +36,13 @@ pub enum InputErr {
     NoMemory,
 }
 
-impl From<NoMemory> for InputErr {
+impl<E> From<NoMemory> for InputErr<E> {
     ghost use Rattle.std.specs.Prelude.{◌≡◌};
     ghost use Rattle.dia_lines.specs.declared.input.InputErr.TheVariants as variants;
 
     ghost from_gives = { λ _ e. e ≡ variants.NoMemory };
 
-    fn from(_: NoMemory) -> InputErr {
-        InputErr::NoMemory
-    }
-}
-
-impl From<AllocError> for InputErr {
-    ghost use Rattle.std.specs.Prelude.{◌≡◌};
-    ghost use Rattle.dia_lines.specs.declared.input.InputErr.TheVariants as variants;
-
-    ghost from_gives = { λ _ e. e ≡ variants.NoMemory };
-
-    fn from(_: AllocError) -> InputErr {
+    fn from(_: NoMemory) -> InputErr<E> {
         InputErr::NoMemory
     }
 }
@@ -71,37 +63,42 @@ fn room_after(total: u64) -> usize
     (LONGEST_INPUT - total).min(PIECE as u64) as usize
 }
 
-fn reason_of(e: TakeErr) -> InputErr
-    ensures { IsReasonOf e result }
+/// The error of an input whose piece wasn't taken.
+fn input_err<E>(e: TakeErr<E>) -> InputErr<E>
+    ensures { result ≡ reason_of e }
 {
     match e {
         TakeErr::LineTooLong(line) => InputErr::LineTooLong { line },
-        TakeErr::NoMemory => InputErr::NoMemory,
+        TakeErr::Refused(refusal) => InputErr::Refused(refusal),
     }
 }
 
 /// Reads the next piece and takes its lines; 0 is the end.
-fn take_piece<N: Shelf>(
-    alloc: Global,
+fn take_piece<R: Wait, N: Shelf, T: LineTaker>(
+    rt: &R,
     shelf: &mut N,
-    taker: &mut Taker,
+    taker: &mut T,
+    desk: &mut T::Desk,
+    cutter: &mut Cutter,
     buffer: &mut [u8],
     total: u64,
-) -> Result<u64, InputErr>
+) -> Result<u64, InputErr<T::Refusal>>
     requires total { total ≤ LONGEST_INPUT }
-    requires lines { taker.old.lines ≤ total }
+    requires few { cutter.old.ended ≤ total }
     requires buffer { length buffer.old ≡ PIECE }
-    ensures ok { IfOk result (λ n. (all : Option (List ℕ)) → IsReading all taker.old total (N.left shelf.old)
-        → IsReading all taker.new (total + n) (N.left shelf.new)) }
+    requires serves { T.serves taker.old desk.old }
+    ensures ok { IfOk result (λ n. (began : T) (all : Option (List ℕ)) → IsReading T.LineTaker all began taker.old cutter.old total (N.left shelf.old)
+        → IsReading T.LineTaker all began taker.new cutter.new (total + n) (N.left shelf.new)) }
     ensures within { IfOk result (λ n. total + n ≤ LONGEST_INPUT) }
     ensures end { IfOk result (λ n. n ≡ 0 → IsAtEnd (N.left shelf.new)) }
-    ensures lines { IfOk result (λ n. taker.new.lines ≤ total + n) }
-    ensures refused { IfErr result (λ e. (all : Option (List ℕ)) → IsReading all taker.old total (N.left shelf.old)
-        → IfSome all (λ bytes. IsInputReason e (Some bytes))) }
+    ensures few { IfOk result (λ n. cutter.new.ended ≤ total + n) }
+    ensures refused { IfErr result (λ e. (began : T) (all : Option (List ℕ)) → IsReading T.LineTaker all began taker.old cutter.old total (N.left shelf.old)
+        → IfSome all (λ bytes. IsInputReason T.LineTaker began desk.old taker.new desk.new e (Some bytes))) }
     ensures fault { IfErr result (λ e. IsReadFault e (N.faults shelf.old) (N.faults shelf.new)) }
-    ensures counts { N.faults shelf.old ≤ N.faults shelf.new }
-    ensures tells { is_some (N.left shelf.new) ≡ is_some (N.left shelf.old) }
-    ensures fixed { N.is_fixed shelf.old ≡ true → (N.is_fixed shelf.new ≡ true) × (N.holds shelf.new ≡ N.holds shelf.old) }
+    ensures stays { Stays N.Shelf shelf.old shelf.new }
+    ensures asked { N.asked shelf.new ≡ N.asked shelf.old }
+    ensures serves { OnOk result (T.serves taker.new desk.new) }
+    ensures follows { T.follows desk.old desk.new }
 {
     let room = room_after(total);
     let place = &mut buffer[..room];
@@ -115,9 +112,9 @@ fn take_piece<N: Shelf>(
                 return Err(InputErr::InputTooLong);
             }
             let (piece, _) = place.split_at(n);
-            match taker.take(alloc, piece) {
+            match cutter.take(rt, taker, desk, piece) {
                 Ok(()) => Ok(n as u64),
-                Err(e) => Err(reason_of(e)),
+                Err(e) => Err(input_err(e)),
             }
         }
     }
@@ -131,67 +128,116 @@ fn new_buffer(alloc: Global) -> Result<Vec<u8>, NoMemory>
 }
 
 /// Reads the opened input to its end, and answers how many bytes it has.
-fn take_all<N: Shelf>(
-    alloc: Global,
+fn take_all<R: Wait, N: Shelf, T: LineTaker>(
+    rt: &R,
     shelf: &mut N,
-    taker: &mut Taker,
+    taker: &mut T,
+    desk: &mut T::Desk,
+    cutter: &mut Cutter,
     buffer: &mut [u8],
-) -> Result<u64, InputErr>
-    requires taken { HasTaken taker.old [] }
-    requires lines { taker.old.lines ≡ 0 }
+) -> Result<u64, InputErr<T::Refusal>>
+    requires taken { HasTaken T.LineTaker taker.old taker.old cutter.old [] }
+    requires none { cutter.old.ended ≡ 0 }
     requires buffer { length buffer.old ≡ PIECE }
-    ensures ok { IfOk result (λ total. IsReading (N.left shelf.old) taker.new total (N.left shelf.new) × IsAtEnd (N.left shelf.new)) }
+    requires serves { T.serves taker.old desk.old }
+    ensures ok { IfOk result (λ total. IsReading T.LineTaker (N.left shelf.old) taker.old taker.new cutter.new total (N.left shelf.new) × IsAtEnd (N.left shelf.new)) }
     ensures within { IfOk result (λ total. total ≤ LONGEST_INPUT) }
-    ensures refused { IfErr result (λ e. IfSome (N.left shelf.old) (λ bytes. IsInputReason e (Some bytes))) }
+    ensures refused { IfErr result (λ e. IfSome (N.left shelf.old) (λ bytes. IsInputReason T.LineTaker taker.old desk.old taker.new desk.new e (Some bytes))) }
     ensures fault { IfErr result (λ e. IsReadFault e (N.faults shelf.old) (N.faults shelf.new)) }
-    ensures counts { N.faults shelf.old ≤ N.faults shelf.new }
-    ensures fixed { N.is_fixed shelf.old ≡ true → (N.is_fixed shelf.new ≡ true) × (N.holds shelf.new ≡ N.holds shelf.old) }
+    ensures stays { Stays N.Shelf shelf.old shelf.new }
+    ensures asked { N.asked shelf.new ≡ N.asked shelf.old }
+    ensures serves { OnOk result (T.serves taker.new desk.new) }
+    ensures follows { T.follows desk.old desk.new }
 {
     let mut total = 0u64;
     while total <= LONGEST_INPUT {
-        match take_piece(alloc, shelf, taker, buffer, total) {
-            Ok(0) => return Ok(total),
-            Ok(n) => total += n,
-            Err(e) => return Err(e),
+        match take_piece(rt, shelf, taker, desk, cutter, buffer, total)? {
+            0 => return Ok(total),
+            n => total += n,
         }
     }
     unreachable!()
 }
 
-/// Reads the opened input to its end.
-fn read_opened<N: Shelf>(alloc: Global, shelf: &mut N) -> Result<LineRows, InputErr>
-    ensures read { IfOk result (λ rows. IfSome (N.left shelf.old) (λ bytes. IsInput rows (Some bytes))) }
-    ensures lines { IfOk result (λ rows. (bytes : List ℕ) × AreRead rows bytes) }
-    ensures refused { IfErr result (λ e. IfSome (N.left shelf.old) (λ bytes. IsInputReason e (Some bytes))) }
+/// Takes the lines of the opened input, to its end.
+fn take_opened<R: Wait, N: Shelf, T: LineTaker>(
+    rt: &R,
+    alloc: Global,
+    shelf: &mut N,
+    taker: &mut T,
+    desk: &mut T::Desk,
+) -> Result<(), InputErr<T::Refusal>>
+    requires serves { T.serves taker.old desk.old }
+    ensures took { OnOk result (IfSome (N.left shelf.old) (λ bytes. TookInput T.LineTaker taker.old taker.new (Some bytes))) }
+    ensures lines { OnOk result ((bytes : List ℕ) × TookAllOf T.LineTaker taker.old taker.new bytes) }
+    ensures refused { IfErr result (λ e. IfSome (N.left shelf.old) (λ bytes. IsInputReason T.LineTaker taker.old desk.old taker.new desk.new e (Some bytes))) }
     ensures fault { IfErr result (λ e. IsReadFault e (N.faults shelf.old) (N.faults shelf.new)) }
-    ensures counts { N.faults shelf.old ≤ N.faults shelf.new }
-    ensures fixed { N.is_fixed shelf.old ≡ true → (N.is_fixed shelf.new ≡ true) × (N.holds shelf.new ≡ N.holds shelf.old) }
+    ensures stays { Stays N.Shelf shelf.old shelf.new }
+    ensures asked { N.asked shelf.new ≡ N.asked shelf.old }
+    ensures serves { OnOk result (T.serves taker.new desk.new) }
+    ensures follows { T.follows desk.old desk.new }
 {
     let mut buffer = new_buffer(alloc)?;
-    let mut taker = Taker::new(alloc)?;
-    match take_all(alloc, shelf, &mut taker, buffer.as_mut_slice()) {
-        Ok(_) => Ok(taker.finish(alloc)?),
-        Err(e) => Err(e),
+    let mut cutter = Cutter::new(alloc)?;
+    take_all(rt, shelf, taker, desk, &mut cutter, buffer.as_mut_slice())?;
+    match cutter.finish(rt, taker, desk) {
+        Ok(()) => Ok(()),
+        Err(refusal) => Err(InputErr::Refused(refusal)),
     }
 }
 
-/// Reads the lines of an input, from its first byte to its end, as rows of one text.
+/// Reads an input from its first byte to its end, and has its lines taken in order.
 ///
-/// After a refusal the shelf stands anywhere in the input.
-pub fn read_input<N: Shelf>(alloc: Global, shelf: &mut N, name: &Name) -> Result<LineRows, InputErr>
-    ensures read { N.is_fixed shelf.old ≡ true → IfOk result (λ rows. IfSome (N.holds shelf.old) (λ held. IsInput rows (held name.now))) }
-    // Whatever the shelf tells, the rows are those of the lines of the bytes that it gave.
-    ensures lines { IfOk result (λ rows. (bytes : List ℕ) × AreRead rows bytes) }
-    ensures refused { N.is_fixed shelf.old ≡ true → IfErr result (λ e. IfSome (N.holds shelf.old) (λ held. IsInputReason e (held name.now))) }
+/// After a refusal the shelf stands anywhere in the input, and the taker has taken the lines before.
+pub fn read_input<R: Wait, N: Shelf, T: LineTaker>(
+    rt: &R,
+    alloc: Global,
+    shelf: &mut N,
+    name: &Name,
+    taker: &mut T,
+    desk: &mut T::Desk,
+) -> Result<(), InputErr<T::Refusal>>
+    requires serves { T.serves taker.old desk.old }
+    ensures took { N.is_fixed shelf.old ≡ true → OnOk result (IfSome (N.holds shelf.old) (λ held. TookInput T.LineTaker taker.old taker.new (held name.now))) }
+    // The lines are those of what the name held when it was opened, whether the shelf is fixed or not.
+    ensures opened { OnOk result (TookOpened N.Shelf T.LineTaker shelf.old name.now taker.old taker.new) }
+    // Whatever the shelf tells, they are the lines of some bytes.
+    ensures lines { OnOk result ((bytes : List ℕ) × TookAllOf T.LineTaker taker.old taker.new bytes) }
+    ensures refused { N.is_fixed shelf.old ≡ true → IfErr result (λ e. IfSome (N.holds shelf.old) (λ held. IsInputReason T.LineTaker taker.old desk.old taker.new desk.new e (held name.now))) }
     ensures fault { IfErr result (λ e. IsReadFault e (N.faults shelf.old) (N.faults shelf.new)) }
-    ensures counts { N.faults shelf.old ≤ N.faults shelf.new }
-    ensures fixed { N.is_fixed shelf.old ≡ true → (N.is_fixed shelf.new ≡ true) × (N.holds shelf.new ≡ N.holds shelf.old) }
+    ensures stays { Stays N.Shelf shelf.old shelf.new }
+    // The name is asked for once, or, after a refusal, perhaps not at all.
+    ensures asked { Asks N.Shelf shelf.old shelf.new (name.now ∷ []) result }
+    ensures serves { OnOk result (T.serves taker.new desk.new) }
+    ensures follows { T.follows desk.old desk.new }
 {
     match shelf.open(name.text()) {
-        Ok(true) => read_opened(alloc, shelf),
+        Ok(true) => take_opened(rt, alloc, shelf, taker, desk),
         Ok(false) => Err(InputErr::Missing),
         Err(Failed) => Err(InputErr::Read {
             count: shelf.fault_count(),
         }),
     }
+}
+
+/// Reads the lines of an input, from its first byte to its end, as rows of one text that are kept in memory.
+///
+/// After a refusal the shelf stands anywhere in the input.
+pub fn read_rows<R: Wait, N: Shelf>(
+    rt: &R,
+    alloc: Global,
+    shelf: &mut N,
+    name: &Name,
+) -> Result<LineRows, InputErr<NoMemory>>
+    ensures read { N.is_fixed shelf.old ≡ true → IfOk result (λ rows. IfSome (N.holds shelf.old) (λ held. IsInput rows (held name.now))) }
+    // Whatever the shelf tells, the rows are those of the lines of some bytes.
+    ensures lines { IfOk result (λ rows. (bytes : List ℕ) × (rows ≡ line_rows bytes)) }
+    ensures refused { N.is_fixed shelf.old ≡ true → IfErr result (λ e. IfSome (N.holds shelf.old) (λ held. IsInputCause e (held name.now))) }
+    ensures fault { IfErr result (λ e. IsReadFault e (N.faults shelf.old) (N.faults shelf.new)) }
+    ensures stays { Stays N.Shelf shelf.old shelf.new }
+    ensures asked { Asks N.Shelf shelf.old shelf.new (name.now ∷ []) result }
+{
+    let mut rows = LineRows::new(alloc)?;
+    read_input(rt, alloc, shelf, name, &mut rows, &mut ())?;
+    Ok(rows)
 }

@@ -7,12 +7,14 @@ ghost use Rattle.dia_lines.specs.Blocks.{rows_of_blocks};
 
 use crate::block::Block;
 use crate::iter::Iter;
+use crate::line_taker::LineTaker;
 use crate::place::Place;
 use dia_edge::NoMemory;
 use dia_item::{Kind, Kinds};
 use std::alloc::Global;
 use std::marker::Model;
 use std::mem;
+use std::sync::Wait;
 
 /// Rows of one text each, in blocks. Contracts see the list of the rows.
 #[derive(Drop)]
@@ -30,6 +32,48 @@ impl Model for LineRows {
     ghost use Rattle.dia_lines.specs.Blocks.{rows_of_blocks};
 
     ghost view = { λ r. rows_of_blocks r.full.items ++ r.last };
+}
+
+impl LineTaker for LineRows {
+    ghost use Rattle.std.proofs.Common.{◌≡◌, ◌∙◌, ◌++◌, map, ap, sym, append-nil, append_assoc, List, ℕ};
+    ghost use Rattle.std.proofs.lemmas.List.{map-append};
+    ghost use Rattle.row_defs.specs.Pieces.{line_row};
+    ghost use Rattle.row_defs.specs.Rows.{Row};
+
+    type Desk = ();
+
+    type Refusal = NoMemory;
+
+    ghost took = { λ rows lines now. now ≡ rows ++ map line_row lines };
+
+    ghost serves = { λ _ _. Unit {0} };
+
+    ghost follows = { λ _ _. Unit {0} };
+
+    ghost refused = { λ rows _ _ _ now _. now ≡ rows };
+
+    #[inline(always)]
+    fn take<R: Wait>(
+        &mut self,
+        _rt: &R,
+        _desk: &mut (),
+        prefix: &[u8],
+        rest: &[u8],
+    ) -> Result<(), NoMemory> {
+        self.push(prefix, rest)
+    }
+
+    ghost took_none = { λ rows. sym (append-nil rows) };
+
+    ghost took_more = { λ a b c xs ys p q.
+        q ∙ ap (λ (rows : List Row). rows ++ map line_row ys) p ∙ append_assoc a (map line_row xs) (map line_row ys)
+        ∙ ap (λ (rows : List Row). a ++ rows) (sym (map-append line_row xs ys)) };
+
+    ghost follows_refl = { λ _. tt };
+
+    ghost follows_trans = { λ _ _ _ _ _. tt };
+
+    ghost refused_from = { λ _ _ _ _ _ _ _ _ r. r };
 }
 
 /// How many rows the blocks have, or `u64::MAX` where they have more.
@@ -58,11 +102,11 @@ impl LineRows {
     /// The block that is written goes to the full ones, and a new one takes its place.
     #[cold]
     #[inline(never)]
-    fn turn(&mut self, alloc: Global) -> Result<(), NoMemory>
+    fn turn(&mut self) -> Result<(), NoMemory>
         ensures { self.new ≡ self.old }
     {
         self.full.reserve(1)?;
-        let next = Block::new(alloc)?;
+        let next = Block::new(*self.full.allocator())?;
         let done = mem::replace(&mut self.last, next);
         match self.full.push(done) {
             Ok(()) => Ok(()),
@@ -72,13 +116,14 @@ impl LineRows {
 
     /// One more row, of the text that is `prefix` and then `suffix`.
     #[inline(always)]
-    pub fn push(&mut self, alloc: Global, prefix: &[u8], suffix: &[u8]) -> Result<(), NoMemory>
+    pub fn push(&mut self, prefix: &[u8], suffix: &[u8]) -> Result<(), NoMemory>
         requires { length prefix.now + length suffix.now ≤ longest_text }
         ensures ok { OnOk result (self.new ≡ self.old ++ line_row (prefix.now ++ suffix.now) ∷ []) }
         ensures err { OnErr result (self.new ≡ self.old) }
     {
-        if !self.last.has_room(prefix.len() + suffix.len()) {
-            self.turn(alloc)?;
+        let room = self.last.bytes.capacity() - self.last.bytes.len();
+        if room < 4 + prefix.len() + suffix.len() {
+            self.turn()?;
         }
         self.last.push(prefix, suffix)
     }

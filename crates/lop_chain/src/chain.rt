@@ -1,6 +1,10 @@
 //! Several local lines, one after the other.
-ghost use Rattle.std.specs.Prelude.{◌≡◌, ◌≤◌, IfOk, vec_len, refl};
+ghost use Rattle.std.specs.Prelude.{◌≡◌, ◌≤◌, false, IfOk, OnOk, IfErr, vec_len, refl};
+ghost use Rattle.row_defs.specs.Rows.{kinds_of};
 ghost use Rattle.row_defs.specs.LocalOps.{rows_through, AreSoundOps};
+ghost use Rattle.dia_item.specs.Lent.{row_in_ref};
+ghost use Rattle.lop_chain.specs.Rows.{Kinds};
+ghost use Rattle.lop_chain.specs.Calls.{TookRows, TookSome};
 ghost use Rattle.lop_chain.specs.Ops.{ops_in, buffers_needed};
 ghost use Rattle.lop_chain.specs.OpLemmas.{made_sound};
 
@@ -45,6 +49,41 @@ impl Chain {
         let buffers = buffers_for(alloc, ops.as_slice())?;
         Ok(Chain { ops, buffers })
     }
+
+    /// The lines.
+    pub fn ops(&self) -> &[ScriptOp]
+        ensures { ops_in result.now ≡ chain_ops self.now }
+    {
+        self.ops.as_slice()
+    }
+
+    /// Pushes the rows that the lines make of a row into a sink, in order; the lines stay. The only refusal is the sink's
+    /// own: the rows before the refused one were taken, and nothing was offered after it.
+    pub fn push_row<R: Wait, S: RowSink>(
+        &mut self,
+        rt: &R,
+        row: RowRef<'_>,
+        desk: &mut S::Desk,
+        sink: &mut S,
+    ) -> Result<(), S::Refusal>
+        requires fits { (to : Kinds) × AreSoundOps (kinds_of (row_in_ref row)) (chain_ops self.old) to × S.accepts sink.old to }
+        requires serves { S.serves sink.old desk.old }
+        requires is_open { S.is_shut sink.old ≡ false }
+        ensures ok { OnOk result (TookRows S.RowSink sink.old desk.old (rows_through (chain_ops self.old) (row_in_ref row.entry)) sink.new desk.new) }
+        ensures err { IfErr result (λ e. TookSome S.RowSink sink.old desk.old (rows_through (chain_ops self.old) (row_in_ref row.entry)) e sink.new desk.new) }
+        ensures same { chain_ops self.new ≡ chain_ops self.old }
+        ensures follows { S.follows desk.old desk.new }
+        ensures stays { S.stays sink.old sink.new }
+    {
+        push_through(
+            rt,
+            self.ops.as_slice(),
+            self.buffers.as_mut_slice(),
+            &row,
+            desk,
+            sink,
+        )
+    }
 }
 
 impl LocalOp for Chain {
@@ -61,14 +100,7 @@ impl LocalOp for Chain {
         desk: &mut S::Desk,
         sink: &mut S,
     ) -> Result<(), S::Refusal> {
-        push_through(
-            rt,
-            self.ops.as_slice(),
-            self.buffers.as_mut_slice(),
-            &row,
-            desk,
-            sink,
-        )
+        self.push_row(rt, row, desk, sink)
     }
 
     ghost total = { λ x from to row h k. (rows_through (chain_ops x) row, refl) };

@@ -2,7 +2,7 @@
 ghost use Rattle.std.specs.Prelude.{◌≡◌, ◌≤◌, ◌<◌, ◌+◌, ◌++◌, ◌∷◌, [], length, slice_get, slice_set, Some};
 ghost use Rattle.row_defs.specs.declared.kind.Kind.TheVariants.{Int, Text};
 ghost use Rattle.row_defs.specs.Rows.{kinds_of, Fits};
-ghost use Rattle.row_defs.specs.Limits.{longest_text};
+ghost use Rattle.row_defs.specs.Limits.{longest_text, most_columns};
 ghost use Rattle.row_defs.specs.Values.{column as column_of, value_of, number_in, bytes_in};
 ghost use Rattle.row_defs.specs.LocalOps.{map_op, HaveKinds, IsSoundOp, op_kinds};
 ghost use Rattle.dia_item.specs.Fields.{cell_of};
@@ -15,7 +15,7 @@ use dia_item::{Field, RowBuf, RowRef};
 /// The values of the expressions on a row, as further columns.
 fn append_values(exprs: &[Expr], row: &RowRef<'_>, into: &mut RowBuf)
     requires kinds { HaveKinds (kinds_of (row_in_ref row.now)) (exprs_in exprs.now) }
-    requires room { length into.old + length exprs.now ≤ 6 }
+    requires room { length into.old + length exprs.now ≤ most_columns }
     ensures { into.new ≡ into.old ++ values_of (exprs_in exprs.now) (row_in_ref row.now) }
 {
     let Some((expr, rest)) = exprs.split_first() else {

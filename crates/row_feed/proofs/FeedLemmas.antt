@@ -4,7 +4,7 @@ use Rattle.std.specs.List.{range_with_len}
 use Rattle.row_defs.specs.declared.kind.Kind.TheVariants.{Text}
 use Rattle.row_defs.specs.Rows.{Row, kinds_of, number_row}
 use Rattle.row_defs.specs.Pieces.{line_row, line_rows, lines_of}
-use Rattle.row_defs.specs.LocalOps.{LocalOp, rows_through, AreSoundOps}
+use Rattle.row_defs.specs.LocalOps.{LocalOp, rows_through}
 use Rattle.std.proofs.lemmas.List.Concat.{flat_map-append}
 use Rattle.row_defs.specs.Printed.{row_text}
 use Rattle.dia_edge.specs.Counts.{HasRisen}
@@ -13,11 +13,8 @@ use Rattle.dia_edge.specs.Sinks as sinks
 use Rattle.text_out.specs.Carrying.{CarriesOn}
 use Rattle.text_out.proofs.CarryLemmas.{prefix_after, prefix_more}
 use Rattle.row_feed.specs.Sinks.{texts_of_rows}
-use Rattle.lop_chain.specs.Calls.{TookRows, TookAllMade, TookSome, TookSomeMade, TookAllBut}
-use Rattle.lop_chain.specs.Chains.{chain_ops}
-use Rattle.lop_chain.specs.Made.{MakesAsBefore}
+use Rattle.lop_chain.specs.Calls.{TookRows, TookSome, TookAllBut}
 use Rattle.lop_chain.specs.Ops.{rows_from}
-use Rattle.lop_chain.specs.declared.chain.Chain.{Chain}
 use Rattle.lop_chain.specs.declared.sink.RowSink.{Ghosts}
 
 among_lines : (prefix : List Row) (row : Row) (rest : List Row) (lines : List (List ℕ)) → prefix ++ row ∷ rest ≡ map line_row lines → kinds_of row ≡ Text ∷ []
@@ -32,35 +29,21 @@ among_lines (r ∷ prefix) row rest (line ∷ lines) is =
 pub line_kinds : (prefix : List Row) (row : Row) (rest : List Row) (bytes : List ℕ) → prefix ++ row ∷ rest ≡ line_rows bytes → kinds_of row ≡ Text ∷ []
 line_kinds prefix row rest bytes is = among_lines prefix row rest (lines_of bytes) is
 
--- a chain that makes what another one made
-abbrev pub IsSame : Chain → Chain → Type 0
-IsSame x y = MakesAsBefore (λ (c : Chain) from to. AreSoundOps from (chain_ops c) to) (λ (c : Chain) row rows. rows ≡ rows_through (chain_ops c) row) x y
-
 module _ {S D R : Type 0} (g : Ghosts S D R) where
-  -- what the first of a chain made is what it makes
-  pub all_made : (x y : Chain) (row : Row) (s : S) (d : D) (t : S) (b : D) → IsSame x y → TookAllMade g (λ rows. rows ≡ rows_through (chain_ops y) row) s d t b
-      → TookRows g s d (rows_through (chain_ops x) row) t b
-  all_made x y row s d t b same h =
-      let P : List Row → Type 0 = λ rows. TookRows g s d rows t b in
-      subst P (same.made row h.rows h.made) h.all
+  -- what the lines as they are now make is what the lines as they were make
+  pub all_by : (ops now : List LocalOp) (row at : Row) (s : S) (d : D) (t : S) (b : D) → row ≡ at → now ≡ ops → TookRows g s d (rows_through now row) t b
+      → TookRows g s d (rows_through ops at) t b
+  all_by ops now row at s d t b is same h =
+      let At : Row → Type 0 = λ r. TookRows g s d (rows_through ops r) t b in
+      let By : List LocalOp → Type 0 = λ o. TookRows g s d (rows_through o row) t b in
+      subst At is (subst By same h)
 
-  pub some_made : (x y : Chain) (row : Row) (s : S) (d : D) (e : R) (t : S) (b : D) → IsSame x y → TookSomeMade g (λ rows. rows ≡ rows_through (chain_ops y) row) s d e t b
-      → TookSome g s d (rows_through (chain_ops x) row) e t b
-  some_made x y row s d e t b same h =
-      let P : List Row → Type 0 = λ rows. TookSome g s d rows e t b in
-      subst P (same.made row h.rows h.made) h.some
-
-  pub all_made_at : (x y : Chain) (row at : Row) (s : S) (d : D) (t : S) (b : D) → row ≡ at → IsSame x y → TookAllMade g (λ rows. rows ≡ rows_through (chain_ops y) row) s d t b
-      → TookRows g s d (rows_through (chain_ops x) at) t b
-  all_made_at x y row at s d t b is same h =
-      let P : Row → Type 0 = λ r. TookRows g s d (rows_through (chain_ops x) r) t b in
-      subst P is (all_made x y row s d t b same h)
-
-  pub some_made_at : (x y : Chain) (row at : Row) (s : S) (d : D) (e : R) (t : S) (b : D) → row ≡ at → IsSame x y → TookSomeMade g (λ rows. rows ≡ rows_through (chain_ops y) row) s d e t b
-      → TookSome g s d (rows_through (chain_ops x) at) e t b
-  some_made_at x y row at s d e t b is same h =
-      let P : Row → Type 0 = λ r. TookSome g s d (rows_through (chain_ops x) r) e t b in
-      subst P is (some_made x y row s d e t b same h)
+  pub some_by : (ops now : List LocalOp) (row at : Row) (s : S) (d : D) (e : R) (t : S) (b : D) → row ≡ at → now ≡ ops
+      → TookSome g s d (rows_through now row) e t b → TookSome g s d (rows_through ops at) e t b
+  some_by ops now row at s d e t b is same h =
+      let At : Row → Type 0 = λ r. TookSome g s d (rows_through ops r) e t b in
+      let By : List LocalOp → Type 0 = λ o. TookSome g s d (rows_through o row) e t b in
+      subst At is (subst By same h)
 
   -- the next row of those that are left
   pub but_next : (ops : List LocalOp) (s : S) (d : D) (all rest : List Row) (row : Row) (later : List Row) (t : S) (b : D) → rest ≡ row ∷ later

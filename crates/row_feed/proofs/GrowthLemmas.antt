@@ -1,4 +1,4 @@
--- How many rows local lines make of one row, at most.
+-- How many rows local lines make.
 use Rattle.std.proofs.Common.{◌≡◌, ℕ, zero, suc, ◌+◌, ◌-◌, ◌*◌, ◌<◌, ◌≤◌, ◌^◌, ◌==◌, min, Bool, true, false, ◌&&◌, if◌then◌else◌, List, [], ◌∷◌, ◌++◌, length, map, slice_set, slice_index_or, refl, sym, ap, subst, ◌∙◌, arith, length-append, length-take, suc-mul, mul-suc, mul_comm}
 use Rattle.std.proofs.lemmas.Bool.{ltb-true, ltb-false, leb-true, and_parts}
 use Rattle.std.proofs.Math.Dec.{ltb}
@@ -12,7 +12,7 @@ use Rattle.row_defs.specs.Values.{Expr, column, number, literal, math, is_zero, 
 use Rattle.row_defs.specs.LocalOps.{LocalOp, map_op, filter_op, words_op, spread_op, raised, with_word, rows_through}
 use Rattle.dia_lines.specs.Fitting.{AllFit}
 use Rattle.lop_chain.specs.Ops.{rows_from}
-use Rattle.row_feed.specs.Growth.{IsShort, AreShort, is_plain, growth}
+use Rattle.row_feed.specs.Growth.{IsShort, AreShort, is_plain, growth, are_even}
 use Rattle.row_feed.proofs.FeedLemmas.{numbers_long, mapped_long}
 
 -- short rows ----------------------------------------------------------------------------------------------------------
@@ -213,6 +213,33 @@ few_made ops (row ∷ rows) all small =
     let g = growth true ops in
     let low : g < 2 ^ 64 - 1 = omega (arith, small, suc-mul (length rows) g) in
     few_of_each AreShort (rows_through ops) g (row ∷ rows) (λ r k. made_few ops true r (λ t. k) low) all
+
+-- where as many are made of each row, so many are made of all
+many_of_each : (f : Row → List Row) (k : ℕ) (rows : List Row) → ((row : Row) → length (f row) ≡ k) → length (flat_map f rows) ≡ length rows * k
+many_of_each f k [] each = omega arith
+many_of_each f k (row ∷ rows) each =
+    let later = many_of_each f k rows each in
+    let first = each row in
+    omega (arith, length-append (f row) (flat_map f rows), first, later, suc-mul (length rows) k)
+
+made_even : (ops : List LocalOp) (known : Bool) (row : Row) → are_even ops ≡ true → length (rows_through ops row) ≡ growth known ops
+made_even [] known row even = refl
+made_even (map_op exprs ∷ ops) known row even =
+    let still = known && list_all is_plain exprs in
+    let one = many_of_each (rows_through ops) (growth still ops) (map (λ e. value_of e row) exprs ∷ []) (λ r. made_even ops still r even) in
+    omega (arith, one)
+made_even (filter_op e ∷ ops) known row even = absurd cc
+made_even (words_op c ∷ ops) known row even = absurd cc
+made_even (spread_op c count ∷ ops) known row even =
+    let g = growth known ops in
+    let rows = map (raised row c) (range_with_len 0 count) in
+    let all = many_of_each (rows_through ops) g rows (λ r. made_even ops known r even) in
+    let long : length rows ≡ count = mapped_long (raised row c) (range_with_len 0 count) ∙ numbers_long 0 count in
+    all ∙ ap (λ (k : ℕ). k * g) long ∙ mul_comm count g
+
+-- all rows that are made
+pub many_made : (ops : List LocalOp) (rows : List Row) → are_even ops ≡ true → length (rows_from ops rows) ≡ length rows * growth true ops
+many_made ops rows even = many_of_each (rows_through ops) (growth true ops) rows (λ r. made_even ops true r even)
 
 -- products that stand still at the largest number
 still_left : (a b : ℕ) → min (min a (2 ^ 64 - 1) * b) (2 ^ 64 - 1) ≡ min (a * b) (2 ^ 64 - 1)

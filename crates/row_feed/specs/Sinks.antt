@@ -1,13 +1,9 @@
 -- What the sinks hold of the rows that they took.
-use Rattle.std.specs.Prelude.{◌≡◌, ℕ, ◌+◌, ◌-◌, ◌%◌, ◌^◌, min, List}
+use Rattle.std.specs.Prelude.{◌≡◌, ℕ, ◌+◌, ◌%◌, ◌^◌, List}
 use Rattle.std.specs.List.{flat_map, sum_by}
 use Rattle.row_defs.specs.Rows.{Row}
 use Rattle.row_defs.specs.Values.{column, number_in, value_of}
 use Rattle.row_defs.specs.Printed.{row_text}
-
--- so many more, where the count stands still at the largest number
-abbrev pub counted : ℕ → ℕ → ℕ → Type 0
-counted before more now = now ≡ min (before + more) (2 ^ 64 - 1)
 
 -- the number in a column
 abbrev pub number_at : ℕ → Row → ℕ

@@ -1,49 +1,88 @@
 //! Counts rows.
-ghost use Rattle.std.specs.Prelude.{◌≡◌, ◌^◌, ◌<◌, length, false, ⊤};
+ghost use Rattle.std.specs.Prelude.{◌≡◌, ◌+◌, ◌≤◌, length, true, false, OnOk, OnErr, ⊤};
 ghost use Rattle.std.proofs.Common.{arith, length-append};
-ghost use Rattle.row_feed.specs.Sinks.{counted};
+ghost use Rattle.row_defs.specs.Limits.{most_rows};
 
-use dia_edge::NoMemory;
 use dia_item::RowRef;
 use lop_chain::RowSink;
+use row_defs::limits::MOST_ROWS;
 use std::sync::Wait;
 
-/// Counts the rows that it takes, and refuses none. The count stands still at `u64::MAX`.
+/// More rows come than may arrive at an action.
+#[derive(Clone, Copy, Debug, PartialEq, Eq)]
+pub struct TooManyRows;
+
+/// Counts the rows that it takes: as many as may arrive at an action. It refuses the next one.
 #[derive(Drop)]
 pub struct Counter {
     /// How many rows were taken.
     pub rows: u64,
-    ghost fits: { rows < 2 ^ 64 },
+    /// Whether a row was refused.
+    pub shut: bool,
+    ghost few: { rows ≤ most_rows },
+}
+
+impl Counter {
+    /// No rows yet.
+    pub fn new() -> Counter
+        ensures none { result.rows ≡ 0 }
+        ensures is_open { result.shut ≡ false }
+    {
+        Counter {
+            rows: 0,
+            shut: false,
+        }
+    }
+
+    /// One more row, where it isn't too many.
+    #[inline]
+    pub(crate) fn add(&mut self) -> Result<(), TooManyRows>
+        ensures counted { OnOk result (self.new.rows ≡ self.old.rows + 1) }
+        ensures is_open { OnOk result (self.new.shut ≡ self.old.shut) }
+        ensures full { OnErr result (self.old.rows ≡ most_rows) }
+        ensures shut { OnErr result (self.new.shut ≡ true) }
+    {
+        if self.rows >= MOST_ROWS {
+            self.shut = true;
+            return Err(TooManyRows);
+        }
+        self.rows += 1;
+        Ok(())
+    }
 }
 
 impl RowSink for Counter {
     type Desk = ();
 
-    type Refusal = NoMemory;
+    type Refusal = TooManyRows;
 
-    ghost took = { λ s rows t. counted s.rows (length rows) t.rows };
+    ghost took = { λ s rows t. t.rows ≡ s.rows + length rows };
 
     ghost accepts = { λ s kinds. ⊤ };
 
     ghost serves = { λ s d. ⊤ };
 
-    ghost is_shut = { λ s. false };
+    ghost is_shut = { λ s. s.shut };
 
     ghost held = { λ s d. 0 };
 
     ghost follows = { λ a b. ⊤ };
 
-    ghost refused = { λ s a row e t b. ⊥ };
+    ghost refused = { λ s a row e t b. s.rows ≡ most_rows };
 
     ghost stays = { λ s t. ⊤ };
 
     #[inline]
-    fn take<R: Wait>(&mut self, _rt: &R, _desk: &mut (), _row: RowRef<'_>) -> Result<(), NoMemory> {
-        self.rows = self.rows.saturating_add(1);
-        Ok(())
+    fn take<R: Wait>(
+        &mut self,
+        _rt: &R,
+        _desk: &mut (),
+        _row: RowRef<'_>,
+    ) -> Result<(), TooManyRows> {
+        self.add()
     }
 
-    ghost took_none = { λ s. Prim.omega (arith, s.fits) };
+    ghost took_none = { λ s. Prim.omega arith };
 
     ghost took_more = { λ a b c xs ys p q. Prim.omega (arith, p, q, length-append xs ys) };
 

@@ -14,7 +14,7 @@ ghost use Rattle.row_feed.specs.Sources.{IsSource, source_kinds, source_rows};
 use crate::source::Source;
 use dia_item::RowBuf;
 use dia_lines::LineRows;
-use lop_chain::{Chain, LocalOp, RowSink};
+use lop_chain::{Chain, RowSink};
 use std::sync::Wait;
 
 fn feed_lines<R: Wait, S: RowSink>(
@@ -30,11 +30,12 @@ fn feed_lines<R: Wait, S: RowSink>(
     requires is_open { S.is_shut sink.old ≡ false }
     ensures ok { OnOk result (TookRows S.RowSink sink.old desk.old (rows_from (chain_ops chain.old) rows.now) sink.new desk.new) }
     ensures err { IfErr result (λ e. TookSome S.RowSink sink.old desk.old (rows_from (chain_ops chain.old) rows.now) e sink.new desk.new) }
+    ensures same { chain_ops chain.new ≡ chain_ops chain.old }
     ensures follows { S.follows desk.old desk.new }
     ensures stays { S.stays sink.old sink.new }
 {
     for row in rows.iter() {
-        match chain.push(rt, row, desk, sink) {
+        match chain.push_row(rt, row, desk, sink) {
             Ok(()) => {}
             Err(refusal) => return Err(refusal),
         }
@@ -55,12 +56,13 @@ fn feed_numbers<R: Wait, S: RowSink>(
     requires is_open { S.is_shut sink.old ≡ false }
     ensures ok { OnOk result (TookRows S.RowSink sink.old desk.old (rows_from (chain_ops chain.old) (map number_row (range_with_len 0 count))) sink.new desk.new) }
     ensures err { IfErr result (λ e. TookSome S.RowSink sink.old desk.old (rows_from (chain_ops chain.old) (map number_row (range_with_len 0 count))) e sink.new desk.new) }
+    ensures same { chain_ops chain.new ≡ chain_ops chain.old }
     ensures follows { S.follows desk.old desk.new }
     ensures stays { S.stays sink.old sink.new }
 {
     for n in 0..count {
         room.set_int(n);
-        match chain.push(rt, room.row(), desk, sink) {
+        match chain.push_row(rt, room.row(), desk, sink) {
             Ok(()) => {}
             Err(refusal) => return Err(refusal),
         }
@@ -68,7 +70,8 @@ fn feed_numbers<R: Wait, S: RowSink>(
     Ok(())
 }
 
-/// Pushes all rows of a source through a chain into a sink, in order; `room` is for the rows of numbers.
+/// Pushes all rows of a source through a chain into a sink, in order; `room` is for the rows of numbers. The chain's lines
+/// stay, so that it serves the next pass too.
 ///
 /// The only refusal is the sink's own: the rows before the refused one were taken, and nothing was offered after it.
 pub fn feed<'k, R: Wait, S: RowSink>(
@@ -85,6 +88,7 @@ pub fn feed<'k, R: Wait, S: RowSink>(
     requires is_open { S.is_shut sink.old ≡ false }
     ensures ok { OnOk result (TookRows S.RowSink sink.old desk.old (rows_from (chain_ops chain.old) (source_rows source.now)) sink.new desk.new) }
     ensures err { IfErr result (λ e. TookSome S.RowSink sink.old desk.old (rows_from (chain_ops chain.old) (source_rows source.now)) e sink.new desk.new) }
+    ensures same { chain_ops chain.new ≡ chain_ops chain.old }
     ensures follows { S.follows desk.old desk.new }
     ensures stays { S.stays sink.old sink.new }
 {

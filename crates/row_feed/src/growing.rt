@@ -1,9 +1,9 @@
 //! How many rows a chain makes of a source's.
-ghost use Rattle.std.specs.Prelude.{◌≡◌, ◌≤◌, ◌<◌, ◌-◌, ◌*◌, ◌^◌, true, length, min};
+ghost use Rattle.std.specs.Prelude.{◌≡◌, ◌-◌, ◌^◌, length, min};
 ghost use Rattle.std.specs.List.{AllByRecursion, list_all};
 ghost use Rattle.dia_expr.specs.Exprs.{expr_in};
 ghost use Rattle.lop_chain.specs.Ops.{exprs_in, ops_in, rows_from};
-ghost use Rattle.row_feed.specs.Growth.{AreShort, growth, is_plain, most_words};
+ghost use Rattle.row_feed.specs.Growth.{AreShort, growth, is_plain, most_words, are_even, extent, TellsExtent};
 ghost use Rattle.row_feed.specs.Sources.{source_rows};
 
 use crate::source::Source;
@@ -26,7 +26,11 @@ fn row_count(source: &Source<'_>) -> u64
 fn most_words(known: bool) -> u64
     ensures { result ≡ most_words known }
 {
-    if known { 32_768 } else { u64::MAX }
+    if known {
+        (LONGEST_TEXT / 2) as u64
+    } else {
+        u64::MAX
+    }
 }
 
 /// Whether the value is a number, or a text of the row or of the expression, or a part of one, and so is no longer than a
@@ -68,11 +72,37 @@ fn growth(ops: &[ScriptOp], known: bool) -> u64
     }
 }
 
-/// The most rows that a chain of these lines can make of a source's: the number of the source's rows times the most that
-/// the lines make of one. `u64::MAX` says nothing.
-pub fn most_made(source: &Source<'_>, ops: &[ScriptOp]) -> u64
-    ensures value { result ≡ min (length (source_rows source.now) * growth true (ops_in ops.now)) (2 ^ 64 - 1) }
-    ensures most { result < 2 ^ 64 - 1 → length (rows_from (ops_in ops.now) (source_rows source.now)) ≤ result }
+/// Whether each line makes as many rows of each row: only filters and words look at what stands there.
+fn are_even(ops: &[ScriptOp]) -> bool
+    ensures { result ≡ are_even (ops_in ops.now) }
 {
-    row_count(source).saturating_mul(growth(ops, true))
+    match ops.split_first() {
+        None => true,
+        Some((op, rest)) => match op {
+            ScriptOp::Map(_) | ScriptOp::Spread { .. } => are_even(rest),
+            ScriptOp::Filter(_) | ScriptOp::Words { .. } => false,
+        },
+    }
+}
+
+/// How many rows a chain of lines makes of a source's, as far as it is known at once.
+#[derive(Clone, Copy, Debug, PartialEq, Eq)]
+pub enum Extent {
+    /// So many; `u64::MAX` where there are more.
+    Exactly(u64),
+    /// So many at most; `u64::MAX` says nothing.
+    AtMost(u64),
+}
+
+/// How many rows a chain of these lines makes of a source's: exactly where none of the lines is a filter or makes words.
+pub fn extent_of(source: &Source<'_>, ops: &[ScriptOp]) -> Extent
+    ensures value { result ≡ extent (length (source_rows source.now)) (ops_in ops.now) }
+    ensures tells { TellsExtent result (length (rows_from (ops_in ops.now) (source_rows source.now))) }
+{
+    let made = row_count(source).saturating_mul(growth(ops, true));
+    if are_even(ops) {
+        Extent::Exactly(made)
+    } else {
+        Extent::AtMost(made)
+    }
 }

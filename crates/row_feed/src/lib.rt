@@ -2,7 +2,8 @@
 //!
 //! The layer above relies on `feed`, which pushes all rows of a source through a chain into a sink, in order, or stops
 //! at the sink's own refusal; on the sinks, whose `took` says what they hold of the rows; on `print_all`, which prints
-//! the rows; and on `most_made`, which bounds how many are made. The words stand in `specs/`: Sources, Sinks, Growth.
+//! the rows; and on `extent_of`, which says how many are made, or bounds it. The words stand in `specs/`: Sources, Sinks,
+//! Growth.
 #![tactic(auto)]
 
 mod counter;
@@ -12,9 +13,9 @@ mod printer;
 mod source;
 mod summer;
 
-pub use counter::Counter;
+pub use counter::{Counter, TooManyRows};
 pub use feeding::feed;
-pub use growing::most_made;
+pub use growing::{Extent, extent_of};
 pub use printer::{Printer, print_all};
 pub use source::Source;
 pub use summer::Summer;

@@ -121,21 +121,21 @@ fn print_through<'k, 'b, 'o, R: Wait, S: Sink>(
     requires is_open { printer.old.shut ≡ false }
     requires empty { printer.old.buffer.now ≡ [] }
     ensures ok { OnOk result (TookAll (S.taken printer.old.out.now) (texts_of_rows (rows_from (chain_ops chain.old) (source_rows source.now))) (S.taken printer.new.out.now)) }
+    ensures empty { OnOk result (printer.new.buffer.now ≡ []) }
     ensures prefix { OnErr result (TookPrefix (S.taken printer.old.out.now) (texts_of_rows (rows_from (chain_ops chain.old) (source_rows source.now))) (S.taken printer.new.out.now)) }
     ensures rose { OnErr result (HasRisen (S.faults printer.old.out.now) (S.faults printer.new.out.now)) }
     ensures counts { S.faults printer.old.out.now ≤ S.faults printer.new.out.now }
     ensures out { printer.new.out.ghost_name ≡ printer.old.out.ghost_name }
     ensures buffer { printer.new.buffer.ghost_name ≡ printer.old.buffer.ghost_name }
 {
-    match feed_printer(rt, source, chain, room, printer) {
-        Ok(()) => printer.buffer.flush(printer.out),
-        Err(e) => Err(e),
-    }
+    feed_printer(rt, source, chain, room, printer)?;
+    printer.buffer.flush(printer.out)
 }
 
-/// Prints all rows that a chain makes of a source's, through an empty buffer. `room` is for the rows of numbers.
+/// Prints all rows that a chain makes of a source's, through an empty buffer, which is empty again then. `room` is for the
+/// rows of numbers.
 ///
-/// After a failure the sink took some prefix of the texts.
+/// After a failure the sink took some prefix of the texts, and the buffer may only be dropped.
 pub fn print_all<R: Wait, S: Sink>(
     rt: &R,
     source: &Source<'_>,
@@ -148,6 +148,7 @@ pub fn print_all<R: Wait, S: Sink>(
     requires fits { (to : Kinds) × AreSoundOps (source_kinds source.now) (chain_ops chain.old) to }
     requires empty { buffer.old ≡ [] }
     ensures ok { OnOk result (TookAll (S.taken out.old) (texts_of_rows (rows_from (chain_ops chain.old) (source_rows source.now))) (S.taken out.new)) }
+    ensures empty { OnOk result (buffer.new ≡ []) }
     ensures prefix { OnErr result (TookPrefix (S.taken out.old) (texts_of_rows (rows_from (chain_ops chain.old) (source_rows source.now))) (S.taken out.new)) }
     ensures rose { OnErr result (HasRisen (S.faults out.old) (S.faults out.new)) }
     ensures counts { S.faults out.old ≤ S.faults out.new }

@@ -1,58 +1,80 @@
 //! Adds up a column.
-ghost use Rattle.std.specs.Prelude.{◌≡◌, ◌^◌, ◌<◌, length, false, slice_get, Some, ⊤, refl};
+ghost use Rattle.std.specs.Prelude.{◌≡◌, ◌+◌, ◌^◌, ◌<◌, length, false, slice_get, Some, ⊤, refl};
 ghost use Rattle.std.proofs.Common.{arith, length-append, ◌∙◌};
 ghost use Rattle.row_defs.specs.declared.kind.Kind.TheVariants.{Int};
-ghost use Rattle.row_feed.specs.Sinks.{counted, summed, added};
+ghost use Rattle.row_defs.specs.Limits.{most_rows};
+ghost use Rattle.row_feed.specs.Sinks.{summed, added};
 ghost use Rattle.row_feed.specs.Sums.{summed-none, summed-more};
 
-use dia_edge::NoMemory;
+use crate::counter::{Counter, TooManyRows};
 use dia_item::{Field, RowRef};
 use lop_chain::RowSink;
 use std::sync::Wait;
 
-/// Adds up the numbers in a column modulo 2^64, and counts the rows. It refuses none.
+/// Adds up the numbers in a column modulo 2^64, of as many rows as may arrive at an action. It refuses the next one.
 #[derive(Drop)]
 pub struct Summer {
     /// The column.
     pub column: usize,
     /// The sum.
     pub sum: u64,
-    /// How many rows were taken; the count stands still at `u64::MAX`.
-    pub rows: u64,
-    ghost fits: { (rows < 2 ^ 64) × (sum < 2 ^ 64) },
+    /// The rows that were taken.
+    pub counter: Counter,
+    ghost fits: { sum < 2 ^ 64 },
+}
+
+impl Summer {
+    /// Nothing added up yet.
+    pub fn new(column: usize) -> Summer
+        ensures column { result.column ≡ column }
+        ensures sum { result.sum ≡ 0 }
+        ensures none { result.counter.rows ≡ 0 }
+        ensures is_open { result.counter.shut ≡ false }
+    {
+        Summer {
+            column,
+            sum: 0,
+            counter: Counter::new(),
+        }
+    }
 }
 
 impl RowSink for Summer {
     type Desk = ();
 
-    type Refusal = NoMemory;
+    type Refusal = TooManyRows;
 
-    ghost took = { λ s rows t. counted s.rows (length rows) t.rows × summed s.sum (added s.column rows) t.sum × (t.column ≡ s.column) };
+    ghost took = { λ s rows t. (t.counter.rows ≡ s.counter.rows + length rows) × summed s.sum (added s.column rows) t.sum × (t.column ≡ s.column) };
 
     ghost accepts = { λ s kinds. slice_get kinds s.column ≡ Some Int };
 
     ghost serves = { λ s d. ⊤ };
 
-    ghost is_shut = { λ s. false };
+    ghost is_shut = { λ s. s.counter.shut };
 
     ghost held = { λ s d. 0 };
 
     ghost follows = { λ a b. ⊤ };
 
-    ghost refused = { λ s a row e t b. ⊥ };
+    ghost refused = { λ s a row e t b. s.counter.rows ≡ most_rows };
 
     ghost stays = { λ s t. t.column ≡ s.column };
 
     #[inline]
-    fn take<R: Wait>(&mut self, _rt: &R, _desk: &mut (), row: RowRef<'_>) -> Result<(), NoMemory> {
-        self.rows = self.rows.saturating_add(1);
+    fn take<R: Wait>(
+        &mut self,
+        _rt: &R,
+        _desk: &mut (),
+        row: RowRef<'_>,
+    ) -> Result<(), TooManyRows> {
+        self.counter.add()?;
         if let Field::Int(n) = row.field(self.column) {
             self.sum = self.sum.wrapping_add(n);
         }
         Ok(())
     }
 
-    ghost took_none = { λ s. (Prim.omega (arith, s.fits.0), summed-none s.sum, refl) };
+    ghost took_none = { λ s. (Prim.omega arith, summed-none s.sum, refl) };
 
     ghost took_more = { λ a b c xs ys p q. (
       Prim.omega (arith, p.0, q.0, length-append xs ys),

@@ -29,16 +29,12 @@ fn numbers_are_spread_and_added_up(rt: HostRuntime) -> Result<(), Fail> {
     for (count, rows, sum) in [(0, 0, 0), (1, 3, 3), (1000, 3000, 1_501_500)] {
         let source = Source::Numbers(count);
         let ops = spread_by_3(rt.alloc())?;
-        assert_eq!(rt; most_made(&source, ops.as_slice()), rows);
+        assert_eq!(rt; extent_of(&source, ops.as_slice()), Extent::Exactly(rows));
         let mut chain = Chain::new(rt.alloc(), ops)?;
-        let mut summer = Summer {
-            column: 0,
-            sum: 0,
-            rows: 0,
-        };
+        let mut summer = Summer::new(0);
         let fed = feed(&rt, &source, &mut chain, &mut room, &mut (), &mut summer);
         assert!(rt; fed.is_ok());
-        assert_eq!(rt; summer.rows, rows);
+        assert_eq!(rt; summer.counter.rows, rows);
         assert_eq!(rt; summer.sum, sum);
     }
     Ok(())

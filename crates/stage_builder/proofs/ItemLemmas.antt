@@ -30,6 +30,10 @@ numbers_are (n ∷ items) (x ∷ xs) is =
     ap (λ (k : ℕ). k ∷ lines_at items) (one_number n.now.line x (statement_in n.now.statement) parts.0)
     ∙ ap (λ (ks : List ℕ). x ∷ ks) (numbers_are items xs parts.1)
 
+-- what was added to nothing
+pub added_lines : (old new : List (Bor numbereds.Numbered)) (more : List Item) → old ≡ [] → items_at new ≡ items_at old ++ more → items_at new ≡ more
+added_lines old new more none is = is ∙ ap (λ (items : List (Bor numbereds.Numbered)). items_at items ++ more) none
+
 -- items that all stand in the script, behind others that do
 pub stand_behind : (script : Script) (items more : List (Bor numbereds.Numbered)) → AllByRecursion (StandsIn script) (numbered_at items)
     → AllByRecursion (StandsIn script) (numbered_at more) → AllByRecursion (StandsIn script) (numbered_at (items ++ more))

@@ -1,3 +1,4 @@
 pub mod ItemLemmas
 pub mod OperandLemmas
 pub mod PlanLemmas
+pub mod SetLemmas

@@ -1,40 +1,56 @@
 -- What a line stands on, from what the line that it names stands on.
-use Rattle.std.proofs.Common.{◌≡◌, ℕ, ◌<◌, ◌≤◌, List, [], ◌∷◌, ◌++◌, length, map, None, Some, IsSome, refl, sym, ap, ◌∙◌, subst, arith}
+use Rattle.std.proofs.Common.{◌≡◌, ℕ, ◌<◌, ◌≤◌, List, [], ◌∷◌, ◌++◌, length, map, None, Option, Some, IsSome, refl, sym, ap, ◌∙◌, subst, arith}
 use Rattle.std.specs.List.{filter_map, cons_option}
 use Rattle.std.proofs.lemmas.Bool.{true≢false}
 use Rattle.row_defs.specs.declared.kind.Kind.{Kind}
+use Rattle.row_defs.specs.declared.kind.Kind.TheVariants.{Int, Text}
 use Rattle.row_defs.specs.Limits.{most_columns}
 use Rattle.row_defs.specs.Values.{Expr, expr_kind}
 use Rattle.row_defs.specs.LocalOps.{LocalOp, map_op, HaveKinds, IsSoundOp, op_kinds, AreSoundOps}
 use Rattle.row_defs.specs.Operands.{Root, Operand, root_line}
-use Rattle.script_defs.specs.Scripts.{Form, lines_form, generate_form, local_form, form_operands, form_kinds, line, Statement, Script, statement_at}
+use Rattle.script_defs.specs.Scripts.{IsLineIn, Form, lines_form, generate_form, local_form, Origin, stored, counted, made, origin_of, form_operands, form_kinds, line, Script, statement_at}
 use Rattle.script_defs.specs.Reading.{Known, nothing_known}
-use Rattle.script_defs.specs.Sound.{kinds_numbered, kinds_of_form, IsSound}
+use Rattle.script_defs.specs.Sound.{kinds_numbered, kinds_of_form}
 use Rattle.script_defs.specs.Plans.{IsChain, IsRootOf, IsOperand, known_behind}
-use Rattle.run_laws.proofs.KindLemmas.{IsFormIn, IsLineSound, line_sound}
-use Rattle.stage_builder.specs.Locals.{op_of}
+use Rattle.stage_builder.specs.Lines.{line_form}
+use Rattle.stage_builder.specs.Origins.{origin_where}
+use Rattle.run_laws.proofs.KindLemmas.{IsFormIn, IsLineSound}
 
-pub local_of : (form : Form) (of : ℕ) → of ∷ [] ≡ form_operands form → form ≡ local_form of (op_of form)
-local_of (lines_form input) of one = let wrong : ⊥ = cc in absurd wrong
-local_of (generate_form count) of one = let wrong : ⊥ = cc in absurd wrong
-local_of (local_form m op) of one = let same : m ≡ of = cc in ap (λ (k : ℕ). local_form k op) same
+-- how the line with a number comes to its rows
+pub origin_here : (script : Script) (n : ℕ) (name : List ℕ) (form : Form) (found : Option Form) (origin : Origin) → statement_at script n ≡ Some (line name form)
+    → found ≡ line_form (statement_at script n) → origin ≡ origin_where found → origin ≡ origin_of form
+origin_here script n name form found origin at is comes = comes ∙ ap origin_where (is ∙ ap line_form at)
 
--- what is known of a local line
-pub local_in : (script : Script) (known : Known) (n of : ℕ) (form : Form) → of ∷ [] ≡ form_operands form → IsLineSound script known n form
-    → IsFormIn script known n (local_form of (op_of form)) × (kinds_numbered known n ≡ op_kinds (kinds_numbered known of) (op_of form))
-local_in script known n of form one s =
-    let is = local_of form of one in
+-- how a line comes to its rows says what it is
+pub stored_form : (form : Form) → stored ≡ origin_of form → (form_operands form ≡ []) × (form_kinds [] form ≡ Text ∷ [])
+stored_form (lines_form input) is = (refl, refl)
+stored_form (generate_form count) is = let wrong : ⊥ = cc in absurd wrong
+stored_form (local_form of op) is = let wrong : ⊥ = cc in absurd wrong
+
+pub counted_form : (form : Form) (rows : ℕ) → counted rows ≡ origin_of form → (form_operands form ≡ []) × (form_kinds [] form ≡ Int ∷ [])
+counted_form (lines_form input) rows is = let wrong : ⊥ = cc in absurd wrong
+counted_form (generate_form count) rows is = (refl, refl)
+counted_form (local_form of op) rows is = let wrong : ⊥ = cc in absurd wrong
+
+pub made_form : (form : Form) (of : ℕ) (op : LocalOp) → made of op ≡ origin_of form → form ≡ local_form of op
+made_form (lines_form input) of op is = let wrong : ⊥ = cc in absurd wrong
+made_form (generate_form count) of op is = let wrong : ⊥ = cc in absurd wrong
+made_form (local_form m p) of op is = cc
+
+-- what is known of a line whose rows a local line makes
+pub record IsLocal (script : Script) (known : Known) (n of : ℕ) (op : LocalOp) : Type 0 where
+  pub less : of < n
+  pub line : IsLineIn script of
+  pub sound : IsSoundOp (kinds_numbered known of) op
+  pub kinds : kinds_numbered known n ≡ op_kinds (kinds_numbered known of) op
+
+pub local_in : (script : Script) (known : Known) (n of : ℕ) (op : LocalOp) (form : Form) → form ≡ local_form of op → IsLineSound script known n form
+    → IsLocal script known n of op
+local_in script known n of op form is s =
     let In : Form → Type 0 = λ f. IsFormIn script known n f in
     let Kinds : Form → Type 0 = λ f. kinds_numbered known n ≡ kinds_of_form known f in
-    (subst In is s.stands, subst Kinds is s.kinds)
-
--- a line that was found in an accepted script
-pub found_line : (script found : Script) (n : ℕ) (s : Statement) (name : List ℕ) (form : Form) → IsSound nothing_known 1 script → found ≡ script
-    → Some s ≡ statement_at found n → s ≡ line name form
-    → (statement_at script n ≡ Some (line name form)) × IsLineSound script (known_behind nothing_known script) n form
-found_line script found n s name form sound same at is =
-    let here = ap (λ (x : Script). statement_at x n) (sym same) ∙ sym at ∙ ap (λ (x : Statement). Some x) is in
-    (here, line_sound script n name form sound here)
+    let stands = subst In is s.stands in
+    record { less = stands.0; line = stands.1; sound = stands.2; kinds = subst Kinds is s.kinds }
 
 -- one more local line
 ops_more : (from to : List Kind) (ops : List LocalOp) (op : LocalOp) → AreSoundOps from ops to → IsSoundOp to op → AreSoundOps from (ops ++ op ∷ []) (op_kinds to op)
@@ -69,14 +85,13 @@ root_operand script n name form o is none s root number kinds chain =
     }
 
 -- a local line over another
-pub local_operand : (script : Script) (n of : ℕ) (name : List ℕ) (form : Form) (o p : Operand) → statement_at script n ≡ Some (line name form) → of ∷ [] ≡ form_operands form
-    → IsLineSound script (known_behind nothing_known script) n form → IsOperand script of o → p.root ≡ o.root → p.kinds ≡ op_kinds o.kinds (op_of form)
-    → p.chain ≡ o.chain ++ op_of form ∷ [] → IsOperand script n p
-local_operand script n of name form o p is one s under root kinds chain =
+pub local_operand : (script : Script) (n of : ℕ) (op : LocalOp) (name : List ℕ) (form : Form) (o p : Operand) → statement_at script n ≡ Some (line name form)
+    → form ≡ local_form of op → IsLineSound script (known_behind nothing_known script) n form → IsOperand script of o → p.root ≡ o.root → p.kinds ≡ op_kinds o.kinds op
+    → p.chain ≡ o.chain ++ op ∷ [] → IsOperand script n p
+local_operand script n of op name form o p at is s under root kinds chain =
     let known = known_behind nothing_known script in
-    let op = op_of form in
-    let l = local_in script known n of form one s in
-    let here = is ∙ ap (λ (f : Form). Some (line name f)) (local_of form of one) in
+    let l = local_in script known n of op form is s in
+    let here = at ∙ ap (λ (f : Form). Some (line name f)) is in
     let Root' : Root → Type 0 = λ r. statement_at script (root_line r) ≡ Some (line under.name under.form) in
     let RootOf : Root → Type 0 = λ r. IsRootOf under.form r in
     let Chain : List LocalOp → Type 0 = λ ops. IsChain script (root_line p.root) ops n in
@@ -90,8 +105,8 @@ local_operand script n of name form o p is one s under root kinds chain =
       is = subst Root' (sym root) under.is;
       root = subst RootOf (sym root) under.root;
       chain = subst Chain (sym chain) (subst From (sym root) (chain_more script (root_line o.root) of n o.chain op name under.chain here));
-      kinds = kinds ∙ ap (λ (ks : List Kind). op_kinds ks op) under.kinds ∙ sym l.1;
-      sound = subst Ops (sym chain) (subst To (sym kinds) (ops_more (form_kinds [] under.form) o.kinds o.chain op under.sound (subst Sound (sym under.kinds) l.0.2)));
+      kinds = kinds ∙ ap (λ (ks : List Kind). op_kinds ks op) under.kinds ∙ sym l.kinds;
+      sound = subst Ops (sym chain) (subst To (sym kinds) (ops_more (form_kinds [] under.form) o.kinds o.chain op under.sound (subst Sound (sym under.kinds) l.sound)));
     }
 
 -- each column of a sound map has a kind

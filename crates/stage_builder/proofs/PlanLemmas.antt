@@ -1,7 +1,9 @@
 -- Stages that are marked are a plan.
-use Rattle.std.proofs.Common.{◌≡◌, ℕ, ◌+◌, Bool, not, cond, ◌||◌, List, [], ◌∷◌, ◌++◌, map, filter, length, refl, sym, ap, ◌∙◌, subst, append_assoc, append-nil, arith}
+use Rattle.std.proofs.Common.{◌≡◌, ℕ, ◌+◌, ◌<◌, ◌==◌, Bool, true, false, not, cond, ◌||◌, List, [], ◌∷◌, ◌++◌, map, filter, length, take, drop, slice_index_or, slice_set, refl, sym, ap, ◌∙◌, subst, append_assoc, append-nil, zero-add, arith}
 use Rattle.std.specs.List.{AllByRecursion, list_any, count_by, fold}
-use Rattle.std.proofs.lemmas.List.{map-append, length-map}
+use Rattle.std.proofs.lemmas.Bool.{ne_eqb}
+use Rattle.std.proofs.lemmas.List.{map-append, length-map, drop_more, drop-set-lt, take_more_set}
+use Rattle.std.proofs.lemmas.List.Sums.{sum_by-cons}
 use Rattle.row_defs.specs.Operands.{Root, stored_root, count_root, Operand, is_stored_at}
 use Rattle.script_defs.specs.Scripts.{Script, operands_of}
 use Rattle.script_defs.specs.Work.{work_of}
@@ -9,7 +11,8 @@ use Rattle.script_defs.specs.Plans.{Stage, IsOperand, AreOperands, IsStage, is_s
 use Rattle.stage_builder.specs.declared.plan.Stage as stages
 use Rattle.stage_builder.specs.Views.{stage_in, stages_in}
 use Rattle.stage_builder.specs.Drafts.{done_by}
-use Rattle.stage_builder.specs.Marks.{roots_of, last_among, marked_operand, marked_operands, marked}
+use Rattle.stage_builder.specs.Marks.{roots_of, last_among, marked_operand, marked_operands, marked_stage, marked}
+use Rattle.stage_builder.specs.Tables.{count_at, Counts}
 
 -- a mark changes no root ------------------------------------------------------------------------------------------
 
@@ -109,3 +112,52 @@ marked_length roots (s ∷ stages) = let more = marked_length roots stages in om
 
 pub same_length : (roots : List Root) (new old : List stages.Stage) → stages_in new ≡ marked roots (stages_in old) → length new ≡ length old
 same_length roots new old is = sym (length-map new stage_in) ∙ ap length is ∙ marked_length roots (stages_in old) ∙ length-map old stage_in
+
+-- marking ---------------------------------------------------------------------------------------------------------------
+
+-- no root reads the rows where so many are none
+none_reads : (n : ℕ) (roots : List Root) → (count_by (is_stored_at n) roots == 0) ≡ not (list_any (is_stored_at n) roots)
+none_reads n [] = refl
+none_reads n (r ∷ roots) =
+    let k = count_by (is_stored_at n) roots in
+    ap (λ (m : ℕ). m == 0) (sum_by-cons (λ (x : Root). cond (is_stored_at n x) 1 0) r roots)
+    ∙ (elim (is_stored_at n r) as (λ t. (cond t 1 0 + k == 0) ≡ not (t || list_any (is_stored_at n) roots)) [
+      | true ↦ ne_eqb (1 + k) 0 (λ same. omega (arith, same))
+      | false ↦ ap (λ (m : ℕ). m == 0) (zero-add k) ∙ none_reads n roots
+    ])
+
+pub last_by_count : (n : ℕ) (counts : List ℕ) (roots : List Root) → Counts counts roots → (count_at counts n == 0) ≡ last_among (stored_root n) roots
+last_by_count n counts roots are = ap (λ (m : ℕ). m == 0) (are n) ∙ none_reads n roots
+
+here_dropped : (xs : List stages.Stage) (i : ℕ) (d : stages.Stage) → i < length xs → d ≡ slice_index_or xs i d → drop i xs ≡ d ∷ drop (i + 1) xs
+here_dropped xs i d low is = drop_more xs i d low ∙ ap (λ (x : stages.Stage). x ∷ drop (i + 1) xs) (sym is)
+
+pub counts_next : (counts : List ℕ) (xs : List stages.Stage) (i : ℕ) (d : stages.Stage) → i < length xs → d ≡ slice_index_or xs i d
+    → Counts counts (roots_of (all_operands (stages_in (drop i xs))))
+    → Counts counts (roots_of (stage_in d).operands ++ roots_of (all_operands (stages_in (drop (i + 1) xs))))
+counts_next counts xs i d low is h =
+    let Has : List Root → Type 0 = λ rs. Counts counts rs in
+    subst Has (ap (λ (ss : List stages.Stage). roots_of (all_operands (stages_in ss))) (here_dropped xs i d low is)
+    ∙ roots_more (stage_in d).operands (all_operands (stages_in (drop (i + 1) xs)))) h
+
+pub counts_later : (counts : List ℕ) (xs : List stages.Stage) (i : ℕ) (y : stages.Stage) → Counts counts (roots_of (all_operands (stages_in (drop (i + 1) xs))))
+    → Counts counts (roots_of (all_operands (stages_in (drop (i + 1) (slice_set xs i y)))))
+counts_later counts xs i y h =
+    let Has : List stages.Stage → Type 0 = λ ss. Counts counts (roots_of (all_operands (stages_in ss))) in
+    subst Has (sym (drop-set-lt (i + 1) xs i y (omega arith))) h
+
+pub marked_next : (roots : List Root) (whole : List Stage) (xs : List stages.Stage) (i : ℕ) (d y : stages.Stage) → i < length xs → d ≡ slice_index_or xs i d
+    → stage_in y ≡ marked_stage roots (roots_of (all_operands (stages_in (drop (i + 1) xs)))) (stage_in d)
+    → whole ≡ stages_in (take i xs) ++ marked roots (stages_in (drop i xs))
+    → whole ≡ stages_in (take (i + 1) (slice_set xs i y)) ++ marked roots (stages_in (drop (i + 1) (slice_set xs i y)))
+marked_next roots whole xs i d y low is mark done =
+    let before = stages_in (take i xs) in
+    let later = marked roots (stages_in (drop (i + 1) xs)) in
+    let front : stages_in (take (i + 1) (slice_set xs i y)) ≡ before ++ stage_in y ∷ [] = ap stages_in (take_more_set xs i y low) ∙ map-append stage_in (take i xs) (y ∷ []) in
+    let back : drop (i + 1) (slice_set xs i y) ≡ drop (i + 1) xs = drop-set-lt (i + 1) xs i y (omega arith) in
+    done
+    ∙ ap (λ (ss : List stages.Stage). before ++ marked roots (stages_in ss)) (here_dropped xs i d low is)
+    ∙ ap (λ (s : Stage). before ++ s ∷ later) (sym mark)
+    ∙ sym (append_assoc before (stage_in y ∷ []) later)
+    ∙ ap (λ (ss : List Stage). ss ++ later) (sym front)
+    ∙ ap (λ (ss : List stages.Stage). stages_in (take (i + 1) (slice_set xs i y)) ++ marked roots (stages_in ss)) (sym back)

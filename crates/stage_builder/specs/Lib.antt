@@ -1,6 +1,7 @@
 pub mod Views
-pub mod Found
+pub mod Lines
+pub mod Tables
+pub mod Origins
 pub mod Items
-pub mod Locals
 pub mod Drafts
 pub mod Marks

@@ -6,7 +6,8 @@ ghost use Rattle.script_defs.specs.Sound.{IsSound};
 ghost use Rattle.stage_builder.specs.Views.{plan_in};
 
 use crate::drafts::add_stages;
-use crate::marks::{mark, push_roots};
+use crate::lines::Lines;
+use crate::marks::{mark, readers_among};
 use crate::plan::Plan;
 use crate::work::work_of;
 use dia_edge::NoMemory;
@@ -18,15 +19,12 @@ pub fn build<'s>(alloc: Global, script: &'s Script) -> Result<Plan<'s>, NoMemory
     requires { IsSound nothing_known 1 script.now }
     ensures { IfOk result (λ plan. IsPlan script.now (plan_in plan)) }
 {
-    let items = work_of(alloc, script)?;
+    let lines = Lines::of(alloc, script)?;
+    let items = work_of(alloc, lines.script)?;
     let mut stages = Vec::new(alloc);
-    add_stages(alloc, script, items.as_slice(), &mut stages)?;
-    let mut roots = Vec::new(alloc);
-    push_roots(stages.as_slice(), &mut roots)?;
-    // Memory ends before so many operands.
-    if roots.len() > u32::MAX as usize {
-        return Err(NoMemory);
-    }
-    mark(stages.as_mut_slice(), roots.as_slice());
+    add_stages(alloc, &lines, items.as_slice(), &mut stages)?;
+    let readers = readers_among(alloc, stages.as_slice())?;
+    let mut left = readers.copy(alloc)?;
+    mark(stages.as_mut_slice(), &readers, &mut left);
     Ok(Plan { stages })
 }

@@ -6,10 +6,13 @@
 
 mod building;
 mod drafts;
+mod line_set;
+mod lines;
 mod marks;
 mod needed;
 mod operands;
 mod plan;
+mod readers;
 mod statements;
 #[cfg(test)]
 mod tests;

@@ -1,103 +1,75 @@
 //! What a plan says of the readers of rows that are kept.
-ghost use Rattle.std.specs.Prelude.{◌≡◌, ◌<◌, ◌^◌, ◌++◌, List, map, length, OnOk};
-ghost use Rattle.std.specs.List.{list_any, count_by};
+ghost use Rattle.std.specs.Prelude.{◌≡◌, ℕ, ◌+◌, ◌++◌, List, IfOk, OnOk};
+ghost use Rattle.std.specs.List.{count_by};
 ghost use Rattle.row_defs.specs.Operands as operands;
 ghost use Rattle.row_defs.specs.Operands.{is_stored_at};
 ghost use Rattle.script_defs.specs.Plans.{all_operands};
 ghost use Rattle.lop_chain.specs.Operands.{root_in};
 ghost use Rattle.stage_builder.specs.Marks.{roots_of, last_among, marked_stage, marked};
+ghost use Rattle.stage_builder.specs.Tables.{counts_in, count_at, Counts};
 ghost use Rattle.stage_builder.specs.Views.{stage_in, stages_in};
 
 use crate::plan::{Stage, Task};
+use crate::readers::Readers;
 use dia_edge::NoMemory;
 use lop_chain::Root;
+use std::alloc::Global;
 
-/// Whether these are the rows that are kept of this line.
-fn is_stored_at(line: u32, root: &Root) -> bool
-    ensures { result ≡ is_stored_at line (root_in root.now) }
-{
-    match root {
-        Root::Stored(number) => *number == line,
-        Root::Count { .. } => false,
-    }
-}
-
-/// Whether one of these roots is the rows that are kept of this line.
-fn is_among(line: u32, roots: &[Root]) -> bool
-    ensures { result ≡ list_any (is_stored_at line) (map root_in roots.now) }
-{
-    match roots.split_first() {
-        None => false,
-        Some((root, rest)) => is_stored_at(line, root) || is_among(line, rest),
-    }
-}
-
-/// Whether these rows are kept and none of the later roots has them.
-fn is_last(root: &Root, later: &[Root]) -> bool
-    ensures { result ≡ last_among (root_in root.now) (map root_in later.now) }
-{
-    match root {
-        Root::Stored(line) => !is_among(*line, later),
-        Root::Count { .. } => false,
-    }
-}
-
-/// How many of these roots are the rows that are kept of this line.
-fn readers_of(line: u32, roots: &[Root]) -> u32
-    requires { length roots.now < 2 ^ 32 }
-    ensures { result ≡ count_by (is_stored_at line) (map root_in roots.now) }
-{
-    let mut readers = 0;
-    for root in roots {
-        if is_stored_at(line, root) {
-            readers += 1;
-        }
-    }
-    readers
-}
-
-/// Adds the roots of the operands of these stages.
-pub(crate) fn push_roots(stages: &[Stage], roots: &mut Vec<Root>) -> Result<(), NoMemory>
-    ensures { OnOk result (map root_in roots.new.items ≡ map root_in roots.old.items ++ roots_of (all_operands (stages_in stages.now))) }
+/// Adds the readers that these stages are.
+fn add_readers(stages: &[Stage], readers: &mut Readers) -> Result<(), NoMemory>
+    ensures { OnOk result ((n : ℕ) → count_at (counts_in readers.new) n ≡ count_at (counts_in readers.old) n + count_by (is_stored_at n) (roots_of (all_operands (stages_in stages.now)))) }
 {
     match stages.split_first() {
         None => Ok(()),
         Some((first, rest)) => {
             if let Task::Act { operand, .. } = &first.task {
-                roots.push(operand.root)?;
+                readers.add(&operand.root)?;
             }
-            push_roots(rest, roots)
+            add_readers(rest, readers)
         }
     }
 }
 
-/// Sets by how many of the roots a stage is read, and whether its operand is the last to read its rows. Of the roots from
-/// its own on, gives those of the later stages.
-fn mark_stage<'r>(stage: &mut Stage, left: &'r [Root], roots: &[Root]) -> &'r [Root]
-    requires roots { length roots.now < 2 ^ 32 }
-    requires left { (later : List operands.Root) × (map root_in left.now ≡ roots_of (stage_in stage.old).operands ++ later) }
-    ensures left { map root_in left.now ≡ roots_of (stage_in stage.old).operands ++ map root_in result.now }
-    ensures stage { stage_in stage.new ≡ marked_stage (map root_in roots.now) (map root_in result.now) (stage_in stage.old) }
+/// How often these stages read the rows that are kept of each line.
+pub(crate) fn readers_among(alloc: Global, stages: &[Stage]) -> Result<Readers, NoMemory>
+    ensures { IfOk result (λ readers. Counts (counts_in readers) (roots_of (all_operands (stages_in stages.now)))) }
 {
-    stage.readers = readers_of(stage.line, roots);
-    match &mut stage.task {
-        Task::Read { .. } => left,
-        Task::Act { operand, .. } => {
-            let later = &left[1..];
-            operand.last = is_last(&operand.root, later);
-            later
-        }
+    let mut readers = Readers::new(alloc);
+    add_readers(stages, &mut readers)?;
+    Ok(readers)
+}
+
+/// Whether these rows are kept and none of the later operands reads them.
+fn is_last(root: &Root, later: &Readers) -> bool
+    ensures { (roots : List operands.Root) → Counts (counts_in later.now) roots → result ≡ last_among (root_in root.now) roots }
+{
+    match root {
+        Root::Stored(line) => later.of(*line) == 0,
+        Root::Count { .. } => false,
     }
 }
 
-/// Marks the stages of a plan whose operands have these roots.
-pub(crate) fn mark(stages: &mut [Stage], roots: &[Root])
-    requires few { length roots.now < 2 ^ 32 }
-    requires roots { map root_in roots.now ≡ roots_of (all_operands (stages_in stages.old)) }
-    ensures { stages_in stages.new ≡ marked (map root_in roots.now) (stages_in stages.old) }
+/// Sets by how many operands a stage is read, and whether its operand is the last to read its rows. `left` has the readers
+/// from this stage on, and then those of the later stages.
+fn mark_stage(stage: &mut Stage, all: &Readers, left: &mut Readers)
+    ensures left { (later : List operands.Root) → Counts (counts_in left.old) (roots_of (stage_in stage.old).operands ++ later) → Counts (counts_in left.new) later }
+    ensures stage { (roots later : List operands.Root) → Counts (counts_in all.now) roots → Counts (counts_in left.old) (roots_of (stage_in stage.old).operands ++ later)
+        → stage_in stage.new ≡ marked_stage roots later (stage_in stage.old) }
 {
-    let mut left = roots;
+    stage.readers = all.of(stage.line);
+    if let Task::Act { operand, .. } = &mut stage.task {
+        left.take(&operand.root);
+        operand.last = is_last(&operand.root, left);
+    }
+}
+
+/// Marks the stages of a plan, whose readers these are; `left` has them too, and counts down.
+pub(crate) fn mark(stages: &mut [Stage], all: &Readers, left: &mut Readers)
+    requires all { Counts (counts_in all.now) (roots_of (all_operands (stages_in stages.old))) }
+    requires left { Counts (counts_in left.old) (roots_of (all_operands (stages_in stages.old))) }
+    ensures { stages_in stages.new ≡ marked (roots_of (all_operands (stages_in stages.old))) (stages_in stages.old) }
+{
     for stage in stages.iter_mut() {
-        left = mark_stage(stage, left, roots);
+        mark_stage(stage, all, left);
     }
 }

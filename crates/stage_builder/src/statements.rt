@@ -1,29 +1,14 @@
-//! Statements by number, and what they name.
-ghost use Rattle.std.specs.Prelude.{◌≡◌, ◌++◌, map, OnOk};
-ghost use Rattle.std.specs.Option.{option_map};
-ghost use Rattle.script_defs.specs.Scripts.{operands_of, action_operand, form_operands, statement_at};
+//! What statements name.
+ghost use Rattle.std.specs.Prelude.{◌≡◌, ◌++◌, ℕ, List, OnOk};
+ghost use Rattle.std.specs.Option.{option_to_list};
+ghost use Rattle.script_defs.specs.Scripts.{operands_of, action_operand, form_operands};
 ghost use Rattle.script_defs.specs.Work.{is_line};
-ghost use Rattle.script_read.specs.Statements.{numbered_in, statement_in, form_in, action_in};
-ghost use Rattle.stage_builder.specs.Found.{found_in, option_list};
+ghost use Rattle.stage_builder.specs.Tables.{lines_in, IsSetOf};
+ghost use Rattle.script_read.specs.Statements.{statement_in, form_in, action_in};
 
+use crate::line_set::LineSet;
 use dia_edge::NoMemory;
-use script_read::{Action, Form, Numbered, Statement};
-
-/// The statement with this number.
-pub(crate) fn find_statement<'s>(statements: &'s [Numbered], number: u32) -> Option<&'s Statement>
-    ensures { option_map found_in result ≡ statement_at (map numbered_in statements.now) number }
-{
-    match statements.split_first() {
-        None => None,
-        Some((first, rest)) => {
-            if first.line == number {
-                Some(&first.statement)
-            } else {
-                find_statement(rest, number)
-            }
-        }
-    }
-}
+use script_read::{Action, Form, Statement};
 
 /// The line that an action names.
 pub(crate) fn operand(action: &Action) -> u32
@@ -44,8 +29,8 @@ pub(crate) fn is_line(statement: &Statement) -> bool
 }
 
 /// The line that a form names, where it names one.
-pub(crate) fn form_operand(form: &Form) -> Option<u32>
-    ensures { option_list result ≡ form_operands (form_in form.now) }
+fn form_operand(form: &Form) -> Option<u32>
+    ensures { option_to_list result ≡ form_operands (form_in form.now) }
 {
     match form {
         Form::Lines { .. } | Form::Generate { .. } => None,
@@ -56,21 +41,22 @@ pub(crate) fn form_operand(form: &Form) -> Option<u32>
     }
 }
 
-fn push_form_operands(form: &Form, numbers: &mut Vec<u32>) -> Result<(), NoMemory>
-    ensures { OnOk result (numbers.new.items ≡ numbers.old.items ++ form_operands (form_in form.now)) }
+/// Adds the lines that a form names.
+fn add_form_operands(form: &Form, lines: &mut LineSet) -> Result<(), NoMemory>
+    ensures { OnOk result ((numbers : List ℕ) → IsSetOf (lines_in lines.old) numbers → IsSetOf (lines_in lines.new) (numbers ++ form_operands (form_in form.now))) }
 {
     match form_operand(form) {
         None => Ok(()),
-        Some(of) => Ok(numbers.push(of)?),
+        Some(of) => lines.add(of),
     }
 }
 
-/// The lines that a statement names.
-pub(crate) fn push_operands(statement: &Statement, numbers: &mut Vec<u32>) -> Result<(), NoMemory>
-    ensures { OnOk result (numbers.new.items ≡ numbers.old.items ++ operands_of (statement_in statement.now)) }
+/// Adds the lines that a statement names.
+pub(crate) fn add_operands(statement: &Statement, lines: &mut LineSet) -> Result<(), NoMemory>
+    ensures { OnOk result ((numbers : List ℕ) → IsSetOf (lines_in lines.old) numbers → IsSetOf (lines_in lines.new) (numbers ++ operands_of (statement_in statement.now))) }
 {
     match statement {
-        Statement::Line { form, .. } => push_form_operands(form, numbers),
-        Statement::Act(action) => Ok(numbers.push(operand(action))?),
+        Statement::Line { form, .. } => add_form_operands(form, lines),
+        Statement::Act(action) => lines.add(operand(action)),
     }
 }

@@ -8,6 +8,6 @@ mod out_buffer;
 mod pieces;
 mod row_text;
 
-pub use out_buffer::OutBuffer;
+pub use out_buffer::{MOST_WAITING, OutBuffer};
 pub use pieces::put_pieces;
 pub use row_text::{push_field, push_row};

@@ -1,17 +1,18 @@
 //! A buffer before a sink.
-ghost use Rattle.std.specs.Prelude.{◌≡◌, ◌≤◌, ◌+◌, ◌++◌, [], length, IfOk, OnOk, OnErr, is_some, vec_len, vec_capacity};
+ghost use Rattle.std.specs.Prelude.{◌≡◌, ◌≤◌, ◌+◌, ◌++◌, [], length, IfOk, OnOk, OnErr, is_some};
 ghost use Rattle.dia_edge.specs.Counts.{HasRisen};
 ghost use Rattle.dia_edge.specs.Sinks.{TookAll, TookPrefix};
 ghost use Rattle.text_out.specs.Carrying.{CarriesOn};
 
 use dia_edge::{Failed, NoMemory, Sink};
+use dia_item::append;
 use std::alloc::Global;
 use std::marker::Model;
 
-// how many bytes wait at most
-const ROOM: usize = 65_536;
+/// How many bytes wait at most.
+pub const MOST_WAITING: usize = 65_536;
 
-/// Bytes that wait to be put to a sink, some 64 KiB at most, in room that was had at its making.
+/// Bytes that wait to be put to a sink, 64 KiB at most, in room that was had at its making.
 ///
 /// After a failure it may only be dropped.
 #[derive(Drop)]
@@ -20,26 +21,14 @@ pub struct OutBuffer {
 }
 
 impl Model for OutBuffer {
-    ghost use Rattle.std.specs.Prelude.{List, ℕ, ◌≤◌, vec_capacity};
+    ghost use Rattle.std.specs.Prelude.{List, ℕ, ◌≤◌, vec_len, vec_capacity};
+    ghost use Rattle.text_out.specs.declared.out_buffer.TheConstants.{MOST_WAITING};
 
     ghost Value = { List ℕ };
 
     ghost view = { λ b. b.waiting.items };
 
-    ghost invariant = { λ b. 65536 ≤ vec_capacity b.waiting };
-}
-
-// Bytes that there is room for.
-#[inline(always)]
-fn append(bytes: &mut Vec<u8>, more: &[u8])
-    requires { vec_len bytes.old + length more.now ≤ vec_capacity bytes.old }
-    ensures items { bytes.new.items ≡ bytes.old.items ++ more.now }
-    ensures capacity { vec_capacity bytes.old ≤ vec_capacity bytes.new }
-{
-    let done = bytes.extend_from_slice(more);
-    if done.is_err() {
-        unreachable!()
-    }
+    ghost invariant = { λ b. (vec_len b.waiting ≤ MOST_WAITING) × (MOST_WAITING ≤ vec_capacity b.waiting) };
 }
 
 impl OutBuffer {
@@ -48,7 +37,7 @@ impl OutBuffer {
         ensures { IfOk result (λ buffer. buffer ≡ []) }
     {
         Ok(OutBuffer {
-            waiting: Vec::with_capacity(alloc, ROOM)?,
+            waiting: Vec::with_capacity(alloc, MOST_WAITING)?,
         })
     }
 
@@ -64,30 +53,24 @@ impl OutBuffer {
         if self.waiting.is_empty() {
             return Ok(());
         }
-        match out.put(self.waiting.as_slice()) {
-            Ok(()) => {
-                self.waiting.clear();
-                Ok(())
-            }
-            Err(e) => Err(e),
-        }
+        out.put(self.waiting.as_slice())?;
+        self.waiting.clear();
+        Ok(())
     }
 
     /// Puts what waits and then the bytes, which are too many to wait with it.
     #[cold]
     #[inline(never)]
     fn push_past<S: Sink>(&mut self, out: &mut S, bytes: &[u8]) -> Result<(), Failed>
+        ensures most { OnOk result (length self.new ≤ MOST_WAITING) }
         ensures ok { OnOk result (CarriesOn (S.taken out.old) self.old bytes.now (S.taken out.new) self.new) }
         ensures failed { OnErr result (TookPrefix (S.taken out.old) (self.old ++ bytes.now) (S.taken out.new)) }
         ensures rose { OnErr result (HasRisen (S.faults out.old) (S.faults out.new)) }
         ensures counts { S.faults out.old ≤ S.faults out.new }
         ensures tells { is_some (S.taken out.new) ≡ is_some (S.taken out.old) }
     {
-        match self.flush(out) {
-            Ok(()) => {}
-            Err(e) => return Err(e),
-        }
-        if bytes.len() >= ROOM {
+        self.flush(out)?;
+        if bytes.len() >= MOST_WAITING {
             return out.put(bytes);
         }
         append(&mut self.waiting, bytes);
@@ -97,13 +80,15 @@ impl OutBuffer {
     /// Takes the bytes; what doesn't fit goes to the sink.
     #[inline(always)]
     pub fn push<S: Sink>(&mut self, out: &mut S, bytes: &[u8]) -> Result<(), Failed>
+        ensures waits { length self.old + length bytes.now ≤ MOST_WAITING → (self.new ≡ self.old ++ bytes.now) × (out.new ≡ out.old) }
+        ensures most { OnOk result (length self.new ≤ MOST_WAITING) }
         ensures ok { OnOk result (CarriesOn (S.taken out.old) self.old bytes.now (S.taken out.new) self.new) }
         ensures failed { OnErr result (TookPrefix (S.taken out.old) (self.old ++ bytes.now) (S.taken out.new)) }
         ensures rose { OnErr result (HasRisen (S.faults out.old) (S.faults out.new)) }
         ensures counts { S.faults out.old ≤ S.faults out.new }
         ensures tells { is_some (S.taken out.new) ≡ is_some (S.taken out.old) }
     {
-        if bytes.len() <= self.waiting.capacity() - self.waiting.len() {
+        if bytes.len() <= MOST_WAITING - self.waiting.len() {
             append(&mut self.waiting, bytes);
             return Ok(());
         }

@@ -1,6 +1,6 @@
 -- How an action goes on.
 use Rattle.std.proofs.Common.{◌≡◌, ℕ, ◌<◌, ◌≤◌, Bool, true, false, cond, ltb, List, [], ◌∷◌, ◌++◌, length, map, Option, None, Some, IsSome, refl, sym, ap, ◌∙◌, subst, arith, append_assoc}
-use Rattle.std.specs.List.{AllByRecursion, flat_map, range_with_len}
+use Rattle.std.specs.List.{flat_map, range_with_len}
 use Rattle.std.proofs.lemmas.Bool.{ltb-false, ltb-true}
 use Rattle.row_defs.specs.declared.kind.Kind.{Kind}
 use Rattle.row_defs.specs.Limits.{most_rows}
@@ -9,7 +9,7 @@ use Rattle.row_defs.specs.LocalOps.{AreSoundOps, LocalOp}
 use Rattle.row_defs.specs.Printed.{row_text}
 use Rattle.row_defs.specs.Inputs.{Inputs}
 use Rattle.row_defs.specs.Operands.{Root, stored_root, count_root, Operand, root_line}
-use Rattle.script_defs.specs.Scripts.{Form, lines_form, generate_form, local_form, form_kinds, Action, print_action, size_action, sum_action, action_operand, Statement, line, act, operands_of, Script, statement_at, Origin, stored, counted, made, origin_of}
+use Rattle.script_defs.specs.Scripts.{Form, lines_form, generate_form, local_form, form_kinds, Action, print_action, size_action, sum_action, action_operand, Statement, line, act, Script, statement_at, stored, counted, origin_of}
 use Rattle.script_defs.specs.Sound.{IsSoundAction}
 use Rattle.script_defs.specs.Lists.{Lists, too_many_rows, failure_of_action, rows_in}
 use Rattle.script_defs.specs.Work.{Item, do_action, has_number}
@@ -28,15 +28,13 @@ use Rattle.actions.specs.declared.action.ActErr.{ActErr}
 use Rattle.actions.specs.declared.action.ActErr.TheVariants as acts
 use Rattle.actions.specs.Acting.{Refuses}
 use Rattle.actions.specs.Arriving.{IsActable}
-use Rattle.thrill_top.specs.declared.kept.StoredRows.{StoredRows}
 use Rattle.thrill_top.specs.declared.stage.RunErr.{RunErr}
 use Rattle.thrill_top.specs.declared.stage.RunErr.TheVariants as errors
 use Rattle.thrill_top.specs.Errors.{act_error}
-use Rattle.thrill_top.specs.Promise.{IsTooMany}
-use Rattle.thrill_top.specs.Steps.{kept_at, AreLines, IsListed, IsAt, GoesOn, Stops, KeepsOn, HasRows, root_kinds, IsSourceOf, IsDoable}
-use Rattle.thrill_top.proofs.StepLemmas.{kept_listed, device_end, stops_here}
+use Rattle.thrill_top.specs.Steps.{Kept, AreLines, AreListed, GoesOn, Stops, KeepsOn, HasRows, root_kinds, IsSourceOf, IsDoable}
+use Rattle.thrill_top.proofs.StepLemmas.{stops_here}
 
-pub action_keeps : (script : Script) (n : ℕ) (kept : List StoredRows) → KeepsOn script (do_action n) kept kept
+pub action_keeps : (script : Script) (n : ℕ) (kept : Kept) → KeepsOn script (do_action n) kept kept
 action_keeps script n kept = λ done left work are. record {
   there = λ l name input has is.
       let Has : List ℕ → Type 0 = λ xs. has_number xs l ≡ true in
@@ -71,8 +69,8 @@ counted_numbers (lines_form input) count is = let wrong : ⊥ = cc in absurd wro
 counted_numbers (generate_form n) count is = let same : n ≡ count = cc in ap generate_form same
 counted_numbers (local_form of op) count is = let wrong : ⊥ = cc in absurd wrong
 
-root_rows : (script : Script) (done : List Item) (kept : List StoredRows) (root : Root) (name : List ℕ) (form : Form)
-    → ((input : List ℕ) → form ≡ lines_form input → IsSome (kept_at kept (root_line root))) → IsRootOf form root → HasRows kept root
+root_rows : (script : Script) (done : List Item) (kept : Kept) (root : Root) (name : List ℕ) (form : Form)
+    → ((input : List ℕ) → form ≡ lines_form input → IsSome (kept (root_line root))) → IsRootOf form root → HasRows kept root
 root_rows script done kept (stored_root n) name form there is = let s = stored_lines form is in there s.0 s.1
 root_rows script done kept (count_root n rows) name form there is = tt
 
@@ -80,9 +78,9 @@ root_kinds_are : (form : Form) (root : Root) → IsRootOf form root → form_kin
 root_kinds_are form (stored_root n) is = let s = stored_lines form is in ap (form_kinds []) s.1
 root_kinds_are form (count_root n rows) is = ap (form_kinds []) (counted_numbers form rows is)
 
-pub doable : (script : Script) (done left : List Item) (kept : List StoredRows) (n : ℕ) (action : Action) (o : Operand) → InWork script done (do_action n ∷ left)
-    → ((l : ℕ) (name input : List ℕ) → has_number (lines_among done) l ≡ true → statement_at script l ≡ Some (line name (lines_form input)) → IsSome (kept_at kept l))
-    → AllByRecursion AreLines kept → statement_at script n ≡ Some (act action) → IsOperand script (action_operand action) o
+pub doable : (script : Script) (done left : List Item) (kept : Kept) (n : ℕ) (action : Action) (o : Operand) → InWork script done (do_action n ∷ left)
+    → ((l : ℕ) (name input : List ℕ) → has_number (lines_among done) l ≡ true → statement_at script l ≡ Some (line name (lines_form input)) → IsSome (kept l))
+    → AreLines kept → statement_at script n ≡ Some (act action) → IsOperand script (action_operand action) o
     → IsSoundAction o.kinds action → IsDoable action o kept
 doable script done left kept n action o work there lines is p sound =
     let has = operand_has script (lines_among done) n action work.order.0 is in
@@ -95,18 +93,18 @@ doable script done left kept n action o work there lines is p sound =
       acts = sound;
     }
 
-pub source_kinds_are : (kept : List StoredRows) (root : Root) (source : Source) → IsSourceOf kept root source → root_kinds root ≡ source_kinds source
+pub source_kinds_are : (kept : Kept) (root : Root) (source : Source) → IsSourceOf kept root source → root_kinds root ≡ source_kinds source
 source_kinds_are kept (stored_root n) (Lines rows) is = refl
 source_kinds_are kept (count_root n count) (Numbers m) is = refl
 source_kinds_are kept (stored_root n) (Numbers m) is = absurd is
 source_kinds_are kept (count_root n count) (Lines rows) is = absurd is
 
 -- the rows of a source are the list of its line
-root_list : (script : Script) (inputs : Inputs) (lists : Lists) (done : List Item) (kept : List StoredRows) (root : Root) (name : List ℕ) (form : Form) (source : Source)
-    → IsRunOf script inputs lists done → AllByRecursion (IsListed lists) kept → has_number (lines_among done) (root_line root) ≡ true
+root_list : (script : Script) (inputs : Inputs) (lists : Lists) (done : List Item) (kept : Kept) (root : Root) (name : List ℕ) (form : Form) (source : Source)
+    → IsRunOf script inputs lists done → AreListed lists kept → has_number (lines_among done) (root_line root) ≡ true
     → statement_at script (root_line root) ≡ Some (line name form) → IsRootOf form root → IsSourceOf kept root source
     → lists (root_line root) ≡ Some (source_rows source)
-root_list script inputs lists done kept (stored_root n) name form (Lines rows) run all has is root of = kept_listed lists kept n rows.now all of
+root_list script inputs lists done kept (stored_root n) name form (Lines rows) run all has is root of = all n rows.now of
 root_list script inputs lists done kept (count_root n count) name form (Numbers m) run all has is root of =
     let Right : Option Statement → Type 0 = λ o. IsRightStatement inputs lists n o in
     let here = is ∙ ap (λ (f : Form). Some (line name f)) (counted_numbers form count root) in
@@ -117,8 +115,8 @@ root_list script inputs lists done kept (stored_root n) name form (Numbers m) ru
 root_list script inputs lists done kept (count_root n count) name form (Lines rows) run all has is root of = absurd of
 
 -- the rows that arrive at an action
-acted : (script : Script) (inputs : Inputs) (lists : Lists) (done left : List Item) (kept : List StoredRows) (action : Action) (o : Operand) (source : Source)
-    → InWork script done left → IsRunOf script inputs lists done → AllByRecursion (IsListed lists) kept → has_number (lines_among done) (action_operand action) ≡ true
+acted : (script : Script) (inputs : Inputs) (lists : Lists) (done left : List Item) (kept : Kept) (action : Action) (o : Operand) (source : Source)
+    → InWork script done left → IsRunOf script inputs lists done → AreListed lists kept → has_number (lines_among done) (action_operand action) ≡ true
     → (p : IsOperand script (action_operand action) o) → IsSourceOf kept o.root source
     → lists (action_operand action) ≡ Some (rows_from o.chain (source_rows source))
 acted script inputs lists done left kept action o source work run all has p of =
@@ -177,12 +175,12 @@ took_cut (Some start) taken now texts text before took =
     }
 
 -- an action on its operand and the rows of a source
-pub record IsActing (script : Script) (n : ℕ) (action : Action) (kept : List StoredRows) (o : Operand) (source : Source) : Type 0 where
+pub record IsActing (script : Script) (n : ℕ) (action : Action) (kept : Kept) (o : Operand) (source : Source) : Type 0 where
   pub is : statement_at script n ≡ Some (act action)
   pub operand : IsOperand script (action_operand action) o
   pub of : IsSourceOf kept o.root source
 
-pub act_goes_on : (script : Script) (n : ℕ) (action : Action) (kept : List StoredRows) (o : Operand) (source : Source) (taken now : Option (List ℕ)) → IsActing script n action kept o source
+pub act_goes_on : (script : Script) (n : ℕ) (action : Action) (kept : Kept) (o : Operand) (source : Source) (taken now : Option (List ℕ)) → IsActing script n action kept o source
     → length (rows_from o.chain (source_rows source)) ≤ most_rows → TookAll taken (text_of_rows action (rows_from o.chain (source_rows source))) now
     → (holds : Option Holdings) (fixed : Bool) → GoesOn script holds fixed (do_action n) kept taken kept now
 act_goes_on script n action kept o source taken now a few took = λ holds fixed inputs begun done left tells work at.
@@ -201,7 +199,7 @@ act_goes_on script n action kept o source taken now a few took = λ holds fixed 
     }
 
 -- a write that failed
-write_stops : (script : Script) (n count : ℕ) (action : Action) (kept : List StoredRows) (o : Operand) (source : Source) (taken now : Option (List ℕ)) → IsActing script n action kept o source
+write_stops : (script : Script) (n count : ℕ) (action : Action) (kept : Kept) (o : Operand) (source : Source) (taken now : Option (List ℕ)) → IsActing script n action kept o source
     → length (rows_from o.chain (source_rows source)) ≤ most_rows → TookPrefix taken (text_of_rows action (rows_from o.chain (source_rows source))) now
     → (holds : Option Holdings) (fixed : Bool) → Stops script holds fixed (do_action n) kept taken (errors.Write count) now
 write_stops script n count action kept o source taken now a few took = λ holds fixed inputs begun done left tells work at.
@@ -227,7 +225,7 @@ write_stops script n count action kept o source taken now a few took = λ holds 
     }
 
 -- too many rows
-many_stops : (script : Script) (n : ℕ) (action : Action) (kept : List StoredRows) (o : Operand) (source : Source) (taken : Option (List ℕ)) → IsActing script n action kept o source
+many_stops : (script : Script) (n : ℕ) (action : Action) (kept : Kept) (o : Operand) (source : Source) (taken : Option (List ℕ)) → IsActing script n action kept o source
     → most_rows < length (rows_from o.chain (source_rows source))
     → (holds : Option Holdings) (fixed : Bool) → Stops script holds fixed (do_action n) kept taken (errors.TooManyRows n) taken
 many_stops script n action kept o source taken a many = λ holds fixed inputs begun done left tells work at.
@@ -247,7 +245,7 @@ many_stops script n action kept o source taken a many = λ holds fixed inputs be
       };
     }
 
-pub act_stops : (script : Script) (n : ℕ) (action : Action) (kept : List StoredRows) (o : Operand) (source : Source) (taken now : Option (List ℕ)) (why : ActErr) → IsActing script n action kept o source
+pub act_stops : (script : Script) (n : ℕ) (action : Action) (kept : Kept) (o : Operand) (source : Source) (taken now : Option (List ℕ)) (why : ActErr) → IsActing script n action kept o source
     → Refuses (rows_from o.chain (source_rows source)) (text_of_rows action (rows_from o.chain (source_rows source))) why taken now
     → (holds : Option Holdings) (fixed : Bool) → Stops script holds fixed (do_action n) kept taken (act_error n why) now
 act_stops script n action kept o source taken now acts.TooManyRows a h = λ holds fixed.
@@ -260,7 +258,7 @@ act_stops script n action kept o source taken now acts.NoMemory a h = λ holds f
 
 -- for the doer of an action -------------------------------------------------------------------------------------------
 
-pub actable : (action : Action) (o : Operand) (kept : List StoredRows) (source : Source) (ops : List LocalOp) → IsDoable action o kept → IsSource source → IsSourceOf kept o.root source
+pub actable : (action : Action) (o : Operand) (kept : Kept) (source : Source) (ops : List LocalOp) → IsDoable action o kept → IsSource source → IsSourceOf kept o.root source
     → ops ≡ o.chain → IsActable action ops source
 actable action o kept source ops d readable of same =
     let From : List Kind → Type 0 = λ ks. AreSoundOps ks o.chain o.kinds in
@@ -271,7 +269,7 @@ actable action o kept source ops d readable of same =
       sound = d.acts;
     }
 
-pub acting_on : (n : ℕ) (action : Action) (kept : List StoredRows) (o : Operand) (source : Source) (ops : List LocalOp) (taken now : Option (List ℕ)) → IsSourceOf kept o.root source → ops ≡ o.chain
+pub acting_on : (n : ℕ) (action : Action) (kept : Kept) (o : Operand) (source : Source) (ops : List LocalOp) (taken now : Option (List ℕ)) → IsSourceOf kept o.root source → ops ≡ o.chain
     → length (rows_from ops (source_rows source)) ≤ most_rows → TookAll taken (text_of_rows action (rows_from ops (source_rows source))) now
     → (script : Script) (holds : Option Holdings) (fixed : Bool) → statement_at script n ≡ Some (act action) → IsOperand script (action_operand action) o
     → GoesOn script holds fixed (do_action n) kept taken kept now
@@ -280,7 +278,7 @@ acting_on n action kept o source ops taken now of same few took = λ script hold
     let Took : List LocalOp → Type 0 = λ os. TookAll taken (text_of_rows action (rows_from os (source_rows source))) now in
     act_goes_on script n action kept o source taken now (record { is = is; operand = p; of = of }) (subst Few same few) (subst Took same took) holds fixed
 
-pub acting_stops : (n : ℕ) (action : Action) (kept : List StoredRows) (o : Operand) (source : Source) (ops : List LocalOp) (taken now : Option (List ℕ)) (why : ActErr) (e : RunErr)
+pub acting_stops : (n : ℕ) (action : Action) (kept : Kept) (o : Operand) (source : Source) (ops : List LocalOp) (taken now : Option (List ℕ)) (why : ActErr) (e : RunErr)
     → IsSourceOf kept o.root source → ops ≡ o.chain → Refuses (rows_from ops (source_rows source)) (text_of_rows action (rows_from ops (source_rows source))) why taken now
     → e ≡ act_error n why
     → (script : Script) (holds : Option Holdings) (fixed : Bool) → statement_at script n ≡ Some (act action) → IsOperand script (action_operand action) o

@@ -1,5 +1,5 @@
 -- How a call ends.
-use Rattle.std.proofs.Common.{◌≡◌, ◌≢◌, ◌⊎◌, inl, inr, ℕ, zero, suc, ◌<◌, ◌≤◌, List, [], ◌∷◌, ◌++◌, drop, Option, None, Some, MatchOption, Result, Ok, Err, refl, sym, ap, subst, ◌∙◌, arith, append-nil}
+use Rattle.std.proofs.Common.{◌≡◌, ◌≢◌, ◌⊎◌, inl, inr, ℕ, zero, suc, ◌<◌, ◌≤◌, List, [], ◌∷◌, drop, Option, None, Some, MatchOption, Result, Ok, Err, refl, sym, ap, subst, ◌∙◌, arith}
 use Rattle.std.specs.Prelude.{All, Contains}
 use Rattle.std.proofs.lemmas.List.Elements.{All-contains}
 use Rattle.row_defs.specs.declared.cause.Cause.{Cause}
@@ -123,8 +123,8 @@ accepted_ends inputs name begun taken fault all script there reads e = record {
 
 -- what the ends say where the script is refused, absent or can be run ------------------------------------------------------
 
-some_bytes : (x y : List ℕ) → Some x ≡ Some y → x ≡ y
-some_bytes x y e = cc
+pub same_bytes : (x y : List ℕ) → Some x ≡ Some y → x ≡ y
+same_bytes x y e = cc
 
 abbrev ok_of : Script → Result Script (ℕ × Cause)
 ok_of script = Ok script
@@ -132,13 +132,21 @@ ok_of script = Ok script
 abbrev err_of : ℕ × Cause → Result Script (ℕ × Cause)
 err_of e = Err e
 
+-- an input reads as one script
+pub same_script : (inputs : Inputs) (name all bytes : List ℕ) (mine script : Script) → inputs name ≡ Some all → reading_of all ≡ Ok mine → inputs name ≡ Some bytes → reading_of bytes ≡ Ok script
+    → mine ≡ script
+same_script inputs name all bytes mine script there reads here is =
+    let same : all ≡ bytes = same_bytes all bytes (sym there ∙ here) in
+    let both : ok_of mine ≡ ok_of script = sym reads ∙ ap reading_of same ∙ is in
+    cc
+
 never_there : (inputs : Inputs) (name bytes : List ℕ) (P : Type 0) → inputs name ≡ None → inputs name ≡ Some bytes → P
 never_there inputs name bytes P none some = let both : None ≡ Some bytes = sym none ∙ some in let wrong : ⊥ = cc in absurd wrong
 
 same_refusal : (inputs : Inputs) (name all : List ℕ) (n m : ℕ) (cause other : Cause) → reading_of all ≡ Err (m, other) → inputs name ≡ Some all → IsRefusedScript inputs name n cause
     → IsRefusedWith n cause (Some (faults.Script m other))
 same_refusal inputs name all n m cause other is there r =
-    let same : all ≡ r.0 = some_bytes all r.0 (sym there ∙ r.1) in
+    let same : all ≡ r.0 = same_bytes all r.0 (sym there ∙ r.1) in
     let both : err_of (m, other) ≡ err_of (n, cause) = sym is ∙ ap reading_of same ∙ r.2 in
     let pairs : (m, other) ≡ (n, cause) = cc in
     let lines : m ≡ n = ap (λ (p : ℕ × Cause). p.0) pairs in
@@ -148,7 +156,7 @@ same_refusal inputs name all n m cause other is there r =
 never_refused : (inputs : Inputs) (name all : List ℕ) (script : Script) (n : ℕ) (cause : Cause) (P : Type 0) → reading_of all ≡ Ok script → inputs name ≡ Some all
     → IsRefusedScript inputs name n cause → P
 never_refused inputs name all script n cause P reads there r =
-    let same : all ≡ r.0 = some_bytes all r.0 (sym there ∙ r.1) in
+    let same : all ≡ r.0 = same_bytes all r.0 (sym there ∙ r.1) in
     let both : ok_of script ≡ err_of (n, cause) = sym reads ∙ ap reading_of same ∙ r.2 in
     let wrong : ⊥ = cc in
     absurd wrong
@@ -188,7 +196,7 @@ script_named inputs real name fault now status status_now named P is same faulty
     let OfName : List ℕ → Type 0 = λ x. TellsScript inputs x fault status P in
     let OfFault : Option TopFault → Type 0 = λ x. TellsScript inputs name x status P in
     let OfStatus : ℕ → Type 0 = λ x. TellsScript inputs name now x P in
-    subst OfStatus (sym statuses) (subst OfFault (sym faulty) (subst OfName (some_bytes real name (is ∙ same)) h))
+    subst OfStatus (sym statuses) (subst OfFault (sym faulty) (subst OfName (same_bytes real name (is ∙ same)) h))
 
 dropped : (items left : List Item) (n : ℕ) (item : Item) → drop n items ≡ item ∷ left → Contains items item
 dropped [] left zero item is = (let wrong : ⊥ = cc in absurd wrong)
@@ -199,9 +207,7 @@ dropped (x ∷ items) left (suc n) item is = let c = dropped items left n item i
 never_stopped : (inputs : Inputs) (name : List ℕ) (script : Script) (fault : Option TopFault) (took : List ℕ) (input : List ℕ) (cause : InputFailure) (P : Type 0)
     → IsReadable inputs name script → (a : IsAccepted inputs name fault took) → IsStopped a.script inputs input cause took → P
 never_stopped inputs name script fault took input cause P r a s =
-    let same : a.bytes ≡ r.bytes = some_bytes a.bytes r.bytes (sym a.there ∙ r.there) in
-    let both : ok_of a.script ≡ ok_of script = sym a.reads ∙ ap reading_of same ∙ r.reads in
-    let one : a.script ≡ script = cc in
+    let one = same_script inputs name a.bytes r.bytes a.script script a.there a.reads r.there r.reads in
     let Open : Script → Type 0 = λ x. All (IsOpen x inputs) (work_of x) in
     let opens = subst Open (sym one) r.open_inputs in
     let free : IsOpen a.script inputs (do_line s.next) = All-contains (IsOpen a.script inputs) (work_of a.script) (do_line s.next) opens (dropped (work_of a.script) s.left s.count (do_line s.next) s.work) in
@@ -214,9 +220,7 @@ never_stopped inputs name script fault took input cause P r a s =
 never_many : (inputs : Inputs) (name : List ℕ) (script : Script) (fault : Option TopFault) (took : List ℕ) (n : ℕ) (P : Type 0)
     → IsReadable inputs name script → (a : IsAccepted inputs name fault took) → IsTooMany a.script inputs n took → HasNoTooMany script inputs → P
 never_many inputs name script fault took n P r a many none =
-    let same : a.bytes ≡ r.bytes = some_bytes a.bytes r.bytes (sym a.there ∙ r.there) in
-    let both : ok_of a.script ≡ ok_of script = sym a.reads ∙ ap reading_of same ∙ r.reads in
-    let one : a.script ≡ script = cc in
+    let one = same_script inputs name a.bytes r.bytes a.script script a.there a.reads r.there r.reads in
     let Many : Script → Type 0 = λ x. IsTooMany x inputs n took in
     absurd (none n took (subst Many one many))
 
@@ -235,7 +239,7 @@ complete_end : (inputs : Inputs) (name : List ℕ) (script : Script) (fault : Op
 complete_end inputs name script None took status a b c d r e is h shelf out = whole_0 script inputs status is
 complete_end inputs name script (Some faults.Usage) took status a b c d r e is h shelf out = absurd e
 complete_end inputs name script (Some (faults.Script n cause)) took status a b c d r e is h shelf out =
-    let same : e.bytes ≡ r.bytes = some_bytes e.bytes r.bytes (sym e.there ∙ r.there) in
+    let same : e.bytes ≡ r.bytes = same_bytes e.bytes r.bytes (sym e.there ∙ r.there) in
     let both : err_of (n, cause) ≡ ok_of script = sym e.refused ∙ ap reading_of same ∙ r.reads in
     let wrong : ⊥ = cc in
     absurd wrong
@@ -262,4 +266,4 @@ pub ends_named : (inputs : Inputs) (real name : List ℕ) (begun : Option (List 
     → EndsCall inputs real begun fault taken → EndsCall inputs name begun fault taken
 ends_named inputs real name begun fault taken named is same e =
     let Ends : List ℕ → Type 0 = λ x. EndsCall inputs x begun fault taken in
-    subst Ends (some_bytes real name (is ∙ same)) e
+    subst Ends (same_bytes real name (is ∙ same)) e

@@ -4,3 +4,4 @@ pub mod ActionLemmas
 pub mod TaskLemmas
 pub mod StageLemmas
 pub mod EndLemmas
+pub mod AskLemmas

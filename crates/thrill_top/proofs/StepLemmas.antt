@@ -1,8 +1,14 @@
 -- How one item of the work goes on, or stops.
-use Rattle.std.proofs.Common.{◌≡◌, ℕ, Bool, true, false, cond, eqb, List, [], ◌∷◌, ◌++◌, length, map, Option, Some, is_some, IsSome, IfSome, Result, Ok, Err, OnOk, OnErr, IfErr, find, ◌⊎◌, inl, inr, refl, sym, ap, ◌∙◌, subst, append_assoc, append-nil}
+use Rattle.std.proofs.Common.{◌≡◌, ℕ, Bool, true, false, cond, List, [], ◌∷◌, length, map, Option, Some, is_some, IsSome, IfSome, Result, Ok, Err, OnOk, IfErr, ◌⊎◌, inl, inr, refl, sym, ap, ◌∙◌, subst, append-nil, arith, None}
 use Rattle.std.specs.Option.{option_map}
+use Rattle.std.specs.Ordering.{nat_cmp, is_eq, is_gt, is_lt}
+use Rattle.std.specs.declared.cmp.Ordering.{Ordering}
+use Rattle.std.specs.declared.cmp.Ordering.TheVariants.{Less, Equal, Greater}
+use Rattle.std.specs.Map.{lookup}
+use Rattle.std.specs.BTreeMap.{BTreeMap, Updates, IsEmpty}
+use Rattle.std.proofs.lemmas.Map.Keys.{le_from_not_gt, ge_from_not_lt}
 use Rattle.std.specs.List.{AllByRecursion, flat_map, range_with_len}
-use Rattle.std.proofs.lemmas.Bool.{true≢false, eqb-true, eq-eqb}
+use Rattle.std.proofs.lemmas.Bool.{true≢false, eq-eqb}
 use Rattle.row_defs.specs.Rows.{Row, number_row}
 use Rattle.row_defs.specs.Pieces.{line_rows}
 use Rattle.row_defs.specs.LocalOps.{LocalOp, rows_made}
@@ -14,19 +20,19 @@ use Rattle.script_defs.specs.Runs.{failure_of_statement}
 use Rattle.script_defs.specs.Plans.{is_stored_origin}
 use Rattle.dia_edge.specs.Shelves.{Holdings}
 use Rattle.dia_edge.specs.Sinks.{TookAll}
+use Rattle.dia_edge.specs.declared.refusals.NoMemory.{NoMemory}
 use Rattle.dia_lines.specs.declared.input.InputErr.{InputErr}
 use Rattle.dia_lines.specs.declared.input.InputErr.TheVariants as input_errors
-use Rattle.dia_lines.specs.Inputs.{IsInput, IsInputReason}
+use Rattle.dia_lines.specs.Inputs.{IsInput, IsInputCause}
 use Rattle.run_laws.specs.Order.{lines_among, InWork}
 use Rattle.run_laws.specs.Laws.{texts_among, with_list}
-use Rattle.run_laws.proofs.WorkLemmas.{has_cases, is_one, every_map}
-use Rattle.run_laws.proofs.RunLemmas.{line_goes_on, runs_are_runs, grows_with, lines_push_line, every_push, some_there, listed_there, some_rows}
-use Rattle.thrill_top.specs.declared.kept.StoredRows.{StoredRows}
+use Rattle.run_laws.proofs.WorkLemmas.{has_cases, is_one}
+use Rattle.run_laws.proofs.RunLemmas.{line_goes_on, runs_are_runs, grows_with, lines_push_line, some_there, listed_there, some_rows}
 use Rattle.thrill_top.specs.declared.stage.RunErr.{RunErr}
 use Rattle.thrill_top.specs.declared.stage.RunErr.TheVariants as errors
 use Rattle.thrill_top.specs.Errors.{input_error, run_fault}
 use Rattle.thrill_top.specs.Promise.{TellsInputs, IsStopped, IsCutOff, RunEnd}
-use Rattle.thrill_top.specs.Steps.{kept_at, AreLines, AreKept, IsListed, IsAt, GoesOn, Stops, KeepsOn}
+use Rattle.thrill_top.specs.Steps.{Kept, kept_in, KeepsOneMore, AreListed, IsAt, GoesOn, Stops, KeepsOn}
 
 pub OnOk-map : {T E : Type 0} (r : Result T E) (P Q : Type 0) → (P → Q) → OnOk r P → OnOk r Q
 OnOk-map (Ok t) P Q f p = f p
@@ -49,47 +55,37 @@ OnOk-both (Err e) P Q S f p q = p
 
 -- what is kept --------------------------------------------------------------------------------------------------------
 
-pub kept_lines : (kept : List StoredRows) (n : ℕ) (rows : List Row) → AllByRecursion AreLines kept → kept_at kept n ≡ Some rows → (bytes : List ℕ) × (rows ≡ line_rows bytes)
-kept_lines [] n rows all is = let wrong : ⊥ = cc in absurd wrong
-kept_lines (k ∷ kept) n rows all is =
-    elim (eqb k.number n) as (λ t. option_map (λ (x : StoredRows). x.rows) (cond t (Some k) (find (λ (x : StoredRows). eqb x.number n) kept)) ≡ Some rows → (bytes : List ℕ) × (rows ≡ line_rows bytes)) [
-      | true ↦ λ e. (all.0.0, sym (some_rows k.rows rows e) ∙ all.0.1)
-      | false ↦ λ e. kept_lines kept n rows all.1 e
-    ] is
+order_splits : (o : Ordering) → is_eq o ≡ true → (is_gt o ≡ false) × (is_lt o ≡ false)
+order_splits Less is = absurd (true≢false (sym is))
+order_splits Equal is = (refl, refl)
+order_splits Greater is = absurd (true≢false (sym is))
 
-pub kept_listed : (lists : Lists) (kept : List StoredRows) (n : ℕ) (rows : List Row) → AllByRecursion (IsListed lists) kept → kept_at kept n ≡ Some rows
-    → lists n ≡ Some rows
-kept_listed lists [] n rows all is = let wrong : ⊥ = cc in absurd wrong
-kept_listed lists (k ∷ kept) n rows all is =
-    elim (eqb k.number n) as (λ t. eqb k.number n ≡ t → option_map (λ (x : StoredRows). x.rows) (cond t (Some k) (find (λ (x : StoredRows). eqb x.number n) kept)) ≡ Some rows → lists n ≡ Some rows) [
-      | true ↦ λ same e.
-          let is_rows : k.rows ≡ rows = some_rows k.rows rows e in
-          let At : ℕ → Type 0 = λ m. lists m ≡ Some k.rows in
-          subst At (eqb-true k.number n same) all.0 ∙ ap Some is_rows
-      | false ↦ λ other e. kept_listed lists kept n rows all.1 e
-    ] refl is
+same_number : (n m : ℕ) → is_eq (nat_cmp n m) ≡ true → m ≡ n
+same_number n m is =
+    let parts = order_splits (nat_cmp n m) is in
+    let low = le_from_not_gt n m parts.0 in
+    let high = ge_from_not_lt n m parts.1 in
+    omega arith
 
-kept_push_old : (kept : List StoredRows) (k : StoredRows) (n : ℕ) → IsSome (kept_at kept n) → IsSome (kept_at (kept ++ k ∷ []) n)
-kept_push_old [] k n some = absurd (true≢false (sym some))
-kept_push_old (x ∷ kept) k n some =
-    elim (eqb x.number n) as (λ t. IsSome (option_map (λ (y : StoredRows). y.rows) (cond t (Some x) (find (λ (y : StoredRows). eqb y.number n) kept)))
-    → IsSome (option_map (λ (y : StoredRows). y.rows) (cond t (Some x) (find (λ (y : StoredRows). eqb y.number n) (kept ++ k ∷ []))))) [
-      | true ↦ λ e. refl
-      | false ↦ λ e. kept_push_old kept k n e
-    ] some
+-- what is inserted is kept too
+pub kept_more : (old new : BTreeMap ℕ (List Row)) (n : ℕ) (rows : List Row) → Updates nat_cmp old new n (Some rows) → KeepsOneMore (kept_in old) n rows (kept_in new)
+kept_more old new n rows u = record {
+  here = u.1;
+  others = λ m.
+      elim (is_eq (nat_cmp n m)) as (λ t. is_eq (nat_cmp n m) ≡ t → kept_in new m ≡ cond t (Some rows) (kept_in old m) → (kept_in new m ≡ kept_in old m) ⊎ ((m ≡ n) × (kept_in new m ≡ Some rows))) [
+        | true ↦ λ same is. inr (same_number n m same, is)
+        | false ↦ λ other is. inl is
+      ] refl (u.0 m);
+}
 
-kept_push_new : (kept : List StoredRows) (k : StoredRows) (n : ℕ) → k.number ≡ n → IsSome (kept_at (kept ++ k ∷ []) n)
-kept_push_new [] k n is = rw (eq-eqb k.number n is) refl
-kept_push_new (x ∷ kept) k n is =
-    elim (eqb x.number n) as (λ t. IsSome (option_map (λ (y : StoredRows). y.rows) (cond t (Some x) (find (λ (y : StoredRows). eqb y.number n) (kept ++ k ∷ []))))) [
-      | true ↦ refl
-      | false ↦ kept_push_new kept k n is
-    ]
+-- nothing is kept
+pub kept_none : (map : BTreeMap ℕ (List Row)) → IsEmpty map → (n : ℕ) → kept_in map n ≡ None
+kept_none map none n = ap (lookup (λ k. is_eq (nat_cmp n k))) none
 
 -- ends ----------------------------------------------------------------------------------------------------------------
 
 -- the items done, and nothing of the next one
-pub cut_here : (script : Script) (inputs : Inputs) (begun : Option (List ℕ)) (done left : List Item) (kept : List StoredRows) (taken : Option (List ℕ)) → InWork script done left
+pub cut_here : (script : Script) (inputs : Inputs) (begun : Option (List ℕ)) (done left : List Item) (kept : Kept) (taken : Option (List ℕ)) → InWork script done left
     → (at : IsAt script inputs begun done kept taken) → IsCutOff script inputs (texts_among script at.lists done)
 cut_here script inputs begun done left kept taken work at =
     let r = runs_are_runs script inputs at.lists done left work at.run in
@@ -112,7 +108,7 @@ device_end script inputs (errors.LineTooLong name n) took is cut = absurd is
 device_end script inputs (errors.InputTooLong name) took is cut = absurd is
 device_end script inputs (errors.TooManyRows n) took is cut = absurd is
 
-pub stops_here : (script : Script) (holds : Option Holdings) (fixed : Bool) (item : Item) (kept : List StoredRows) (taken : Option (List ℕ)) (e : RunErr) → IsDeviceErr e
+pub stops_here : (script : Script) (holds : Option Holdings) (fixed : Bool) (item : Item) (kept : Kept) (taken : Option (List ℕ)) (e : RunErr) → IsDeviceErr e
     → Stops script holds fixed item kept taken e taken
 stops_here script holds fixed item kept taken e is = λ inputs begun done left tells work at. record {
   took = texts_among script at.lists done;
@@ -120,14 +116,14 @@ stops_here script holds fixed item kept taken e is = λ inputs begun done left t
   end = device_end script inputs e (texts_among script at.lists done) is (cut_here script inputs begun done (item ∷ left) kept taken work at);
 }
 
-pub memory_stops : (script : Script) (holds : Option Holdings) (fixed : Bool) (item : Item) (kept : List StoredRows) (e : RunErr)
+pub memory_stops : (script : Script) (holds : Option Holdings) (fixed : Bool) (item : Item) (kept : Kept) (e : RunErr)
     → e ≡ errors.NoMemory → (taken : Option (List ℕ)) → Stops script holds fixed item kept taken e taken
 memory_stops script holds fixed item kept e is = λ taken.
     let Device : RunErr → Type 0 = IsDeviceErr in
     stops_here script holds fixed item kept taken e (subst Device (sym is) tt)
 
 -- the line of an input that can't be read
-fails_here : (script : Script) (inputs : Inputs) (begun : Option (List ℕ)) (done left : List Item) (n : ℕ) (name input : List ℕ) (cause : InputFailure) (kept : List StoredRows) (taken : Option (List ℕ))
+fails_here : (script : Script) (inputs : Inputs) (begun : Option (List ℕ)) (done left : List Item) (n : ℕ) (name input : List ℕ) (cause : InputFailure) (kept : Kept) (taken : Option (List ℕ))
     → InWork script done (do_line n ∷ left) → (at : IsAt script inputs begun done kept taken) → statement_at script n ≡ Some (line name (lines_form input))
     → failure_of_input (inputs input) ≡ Some cause → IsStopped script inputs input cause (texts_among script at.lists done)
 fails_here script inputs begun done left n name input cause kept taken work at is fails =
@@ -143,10 +139,12 @@ fails_here script inputs begun done left n name input cause kept taken work at i
       fails = ap (failure_of_statement inputs at.lists) is ∙ ap (option_map input_failure) fails;
     }
 
-input_end : (script : Script) (inputs : Inputs) (begun : Option (List ℕ)) (done left : List Item) (n : ℕ) (name input : List ℕ) (why : InputErr) (kept : List StoredRows) (taken : Option (List ℕ))
+input_end : (script : Script) (inputs : Inputs) (begun : Option (List ℕ)) (done left : List Item) (n : ℕ) (name input : List ℕ) (why : InputErr NoMemory) (kept : Kept) (taken : Option (List ℕ))
     → InWork script done (do_line n ∷ left) → (at : IsAt script inputs begun done kept taken) → statement_at script n ≡ Some (line name (lines_form input))
-    → IsInputReason why (inputs input) → RunEnd script inputs (Some (run_fault (input_error input why))) (texts_among script at.lists done)
+    → IsInputCause why (inputs input) → RunEnd script inputs (Some (run_fault (input_error input why))) (texts_among script at.lists done)
 input_end script inputs begun done left n name input (input_errors.Read count) kept taken work at is reason =
+    cut_here script inputs begun done (do_line n ∷ left) kept taken work at
+input_end script inputs begun done left n name input (input_errors.Refused none) kept taken work at is reason =
     cut_here script inputs begun done (do_line n ∷ left) kept taken work at
 input_end script inputs begun done left n name input input_errors.NoMemory kept taken work at is reason =
     cut_here script inputs begun done (do_line n ∷ left) kept taken work at
@@ -163,8 +161,8 @@ told_input : (holds : Option Holdings) (fixed : Bool) (inputs : Inputs) (P : Opt
 told_input holds fixed inputs P input tells told =
     let Holds : Option Holdings → Type 0 = λ o. IfSome o (λ held. P (held input)) in subst Holds tells.0 (told tells.1)
 
-pub input_stops : (script : Script) (holds : Option Holdings) (fixed : Bool) (n : ℕ) (name input : List ℕ) (kept : List StoredRows) (taken : Option (List ℕ)) (why : InputErr) (e : RunErr)
-    → statement_at script n ≡ Some (line name (lines_form input)) → (fixed ≡ true → IfSome holds (λ held. IsInputReason why (held input)))
+pub input_stops : (script : Script) (holds : Option Holdings) (fixed : Bool) (n : ℕ) (name input : List ℕ) (kept : Kept) (taken : Option (List ℕ)) (why : InputErr NoMemory) (e : RunErr)
+    → statement_at script n ≡ Some (line name (lines_form input)) → (fixed ≡ true → IfSome holds (λ held. IsInputCause why (held input)))
     → (e ≡ input_error input why) ⊎ (e ≡ errors.NoMemory) → Stops script holds fixed (do_line n) kept taken e taken
 input_stops script holds fixed n name input kept taken why e is told (inr none) = memory_stops script holds fixed (do_line n) kept e none taken
 input_stops script holds fixed n name input kept taken why e is told (inl same) = λ inputs begun done left tells work at.
@@ -172,59 +170,61 @@ input_stops script holds fixed n name input kept taken why e is told (inl same) 
     record {
       took = texts_among script at.lists done;
       since = at.since;
-      end = subst End (sym same) (input_end script inputs begun done left n name input why kept taken work at is (told_input holds fixed inputs (IsInputReason why) input tells told));
+      end = subst End (sym same) (input_end script inputs begun done left n name input why kept taken work at is (told_input holds fixed inputs (IsInputCause why) input tells told));
     }
 
 -- lines ---------------------------------------------------------------------------------------------------------------
 
-still_listed : (lists : Lists) (n : ℕ) (rows : List Row) → is_some (lists n) ≡ false → (kept : List StoredRows) → AllByRecursion (IsListed lists) kept
-    → AllByRecursion (IsListed (with_list lists n rows)) kept
-still_listed lists n rows none kept all =
-    every_map (IsListed lists) (IsListed (with_list lists n rows))
-    (λ k h. grows_with lists n rows none k.number (some_there (lists k.number) k.rows h) ∙ h) kept all
+still_listed : (lists : Lists) (n : ℕ) (rows : List Row) → is_some (lists n) ≡ false → (kept : Kept) → AreListed lists kept → AreListed (with_list lists n rows) kept
+still_listed lists n rows none kept all = λ m held is. grows_with lists n rows none m (some_there (lists m) held (all m held is)) ∙ all m held is
 
 -- the lines of an input
-pub input_goes_on : (script : Script) (holds : Option Holdings) (fixed : Bool) (n : ℕ) (name input : List ℕ) (rows : List Row) (kept now : List StoredRows) (k : StoredRows)
+input_goes_on : (script : Script) (holds : Option Holdings) (fixed : Bool) (n : ℕ) (name input : List ℕ) (rows : List Row) (kept now : Kept)
     → statement_at script n ≡ Some (line name (lines_form input)) → (fixed ≡ true → IfSome holds (λ held. IsInput rows (held input)))
-    → k.number ≡ n → k.rows ≡ rows → now ≡ kept ++ k ∷ [] → (taken : Option (List ℕ)) → GoesOn script holds fixed (do_line n) kept taken now taken
-input_goes_on script holds fixed n name input rows kept now k is told number same onto = λ taken inputs begun done left tells work at.
+    → KeepsOneMore kept n rows now → (taken : Option (List ℕ)) → GoesOn script holds fixed (do_line n) kept taken now taken
+input_goes_on script holds fixed n name input rows kept now is told onto = λ taken inputs begun done left tells work at.
     let h : IsInput rows (inputs input) = told_input holds fixed inputs (IsInput rows) input tells told in
     let more = with_list at.lists n rows in
     let none = at.run.listed n ∙ work.order.1 in
     let g = line_goes_on script inputs at.lists done left n name (lines_form input) rows work at.run is (h.bytes, h.there, h.lines) (ap (option_map input_failure) h.free) in
     let here : more n ≡ Some rows = rw (eq-eqb n n refl) refl in
     let At : ℕ → Type 0 = λ m. more m ≡ Some rows in
-    let Listed : List StoredRows → Type 0 = λ xs. AllByRecursion (IsListed more) xs in
-    let mine : IsListed more k = subst At (sym number) here ∙ ap Some (sym same) in
+    let still = still_listed at.lists n rows none kept at.are in
     record {
       lists = more;
       run = g.0;
-      are = subst Listed (sym onto) (every_push (IsListed more) kept k (still_listed at.lists n rows none kept at.are) mine);
+      are = λ m held there. elim (onto.others m) [
+        | inl same ↦ still m held (sym same ∙ there)
+        | inr new ↦ subst At (sym new.0) here ∙ sym new.1 ∙ there
+      ];
       since = let Took : List ℕ → Type 0 = λ t. TookAll begun t taken in subst Took (sym g.1) at.since;
     }
 
-pub input_keeps : (script : Script) (n : ℕ) (rows : List Row) (kept now : List StoredRows) (k : StoredRows) → ((bytes : List ℕ) × (rows ≡ line_rows bytes))
-    → k.number ≡ n → k.rows ≡ rows → now ≡ kept ++ k ∷ [] → KeepsOn script (do_line n) kept now
-input_keeps script n rows kept now k lines number same onto = λ done left work are.
-    let There : List StoredRows → ℕ → Type 0 = λ xs l. IsSome (kept_at xs l) in
-    let Lines : List StoredRows → Type 0 = λ xs. AllByRecursion AreLines xs in
+input_keeps : (script : Script) (n : ℕ) (rows : List Row) (kept now : Kept) → ((bytes : List ℕ) × (rows ≡ line_rows bytes)) → KeepsOneMore kept n rows now
+    → KeepsOn script (do_line n) kept now
+input_keeps script n rows kept now lines onto = λ done left work are.
+    let Some-now : ℕ → Type 0 = λ l. IsSome (now l) in
     record {
       there = λ l name input has is.
           let Has : List ℕ → Type 0 = λ xs. has_number xs l ≡ true in
-          let cases = has_cases (lines_among done) (n ∷ []) l (subst Has (lines_push_line done n) has) in
-          let Here : List StoredRows → Type 0 = λ xs. IsSome (kept_at xs l) in
-          subst Here (sym onto) (elim cases [
-            | inl e ↦ kept_push_old kept k l (are.there l name input e is)
-            | inr e ↦ kept_push_new kept k l (number ∙ is_one n l e)
-          ]);
-      lines = subst Lines (sym onto) (every_push AreLines kept k are.lines (lines.0, same ∙ lines.1));
+          elim (onto.others l) [
+            | inl same ↦ elim (has_cases (lines_among done) (n ∷ []) l (subst Has (lines_push_line done n) has)) [
+              | inl e ↦ ap is_some same ∙ are.there l name input e is
+              | inr e ↦ subst Some-now (is_one n l e) (ap is_some onto.here)
+            ]
+            | inr new ↦ ap is_some new.1
+          ];
+      lines = λ m held there. elim (onto.others m) [
+        | inl same ↦ are.lines m held (sym same ∙ there)
+        | inr new ↦ (lines.0, some_rows held rows (sym there ∙ new.1) ∙ lines.1)
+      ];
     }
 
 some_form : (name defined : List ℕ) (x y : Form) → Some (line name x) ≡ Some (line defined y) → x ≡ y
 some_form name defined x y e = cc
 
 -- a line that is made of another
-local_goes_on : (script : Script) (holds : Option Holdings) (fixed : Bool) (n of : ℕ) (op : LocalOp) (name : List ℕ) (kept : List StoredRows) (taken : Option (List ℕ))
+local_goes_on : (script : Script) (holds : Option Holdings) (fixed : Bool) (n of : ℕ) (op : LocalOp) (name : List ℕ) (kept : Kept) (taken : Option (List ℕ))
     → statement_at script n ≡ Some (line name (local_form of op)) → GoesOn script holds fixed (do_line n) kept taken kept taken
 local_goes_on script holds fixed n of op name kept taken is = λ inputs begun done left tells work at.
     let r = work.order.0 in
@@ -242,7 +242,7 @@ local_goes_on script holds fixed n of op name kept taken is = λ inputs begun do
     }
 
 -- the numbers below another
-numbers_go_on : (script : Script) (holds : Option Holdings) (fixed : Bool) (n count : ℕ) (name : List ℕ) (kept : List StoredRows) (taken : Option (List ℕ))
+numbers_go_on : (script : Script) (holds : Option Holdings) (fixed : Bool) (n count : ℕ) (name : List ℕ) (kept : Kept) (taken : Option (List ℕ))
     → statement_at script n ≡ Some (line name (generate_form count)) → GoesOn script holds fixed (do_line n) kept taken kept taken
 numbers_go_on script holds fixed n count name kept taken is = λ inputs begun done left tells work at.
     let rows = map number_row (range_with_len 0 count) in
@@ -256,7 +256,7 @@ numbers_go_on script holds fixed n count name kept taken is = λ inputs begun do
     }
 
 -- a line whose rows aren't kept
-pub other_goes_on : (script : Script) (holds : Option Holdings) (fixed : Bool) (n : ℕ) (name : List ℕ) (form : Form) (kept : List StoredRows) (taken : Option (List ℕ))
+pub other_goes_on : (script : Script) (holds : Option Holdings) (fixed : Bool) (n : ℕ) (name : List ℕ) (form : Form) (kept : Kept) (taken : Option (List ℕ))
     → is_stored_origin (origin_of form) ≡ false → statement_at script n ≡ Some (line name form) → GoesOn script holds fixed (do_line n) kept taken kept taken
 other_goes_on script holds fixed n name (lines_form input) kept taken other is = absurd (true≢false other)
 other_goes_on script holds fixed n name (generate_form count) kept taken other is = numbers_go_on script holds fixed n count name kept taken is
@@ -265,7 +265,7 @@ other_goes_on script holds fixed n name (local_form of op) kept taken other is =
 no_input : (form : Form) (input : List ℕ) → is_stored_origin (origin_of form) ≡ false → form ≡ lines_form input → ⊥
 no_input form input other is = let Other : Form → Type 0 = λ f. is_stored_origin (origin_of f) ≡ false in true≢false (subst Other is other)
 
-pub other_keeps : (script : Script) (n : ℕ) (name : List ℕ) (form : Form) (kept : List StoredRows)
+pub other_keeps : (script : Script) (n : ℕ) (name : List ℕ) (form : Form) (kept : Kept)
     → is_stored_origin (origin_of form) ≡ false → statement_at script n ≡ Some (line name form) → KeepsOn script (do_line n) kept kept
 other_keeps script n name form kept other here = λ done left work are. record {
   there = λ l defined input has is.
@@ -282,16 +282,15 @@ other_keeps script n name form kept other here = λ done left work are. record {
 
 -- for the reader of an input ------------------------------------------------------------------------------------------
 
-pub lines_go_on : (holds : Option Holdings) (fixed : Bool) (n : ℕ) (input : List ℕ) (rows : List Row) (kept now : List StoredRows) (k : StoredRows)
-    → (fixed ≡ true → IfSome holds (λ held. IsInput rows (held input))) → k.number ≡ n → k.rows ≡ rows → now ≡ kept ++ k ∷ []
+pub lines_go_on : (holds : Option Holdings) (fixed : Bool) (n : ℕ) (input : List ℕ) (rows : List Row) (kept now : Kept)
+    → (fixed ≡ true → IfSome holds (λ held. IsInput rows (held input))) → KeepsOneMore kept n rows now
     → (script : Script) (name : List ℕ) (taken : Option (List ℕ)) → statement_at script n ≡ Some (line name (lines_form input)) → GoesOn script holds fixed (do_line n) kept taken now taken
-lines_go_on holds fixed n input rows kept now k told number same onto = λ script name taken is.
-    input_goes_on script holds fixed n name input rows kept now k is told number same onto taken
+lines_go_on holds fixed n input rows kept now told onto = λ script name taken is. input_goes_on script holds fixed n name input rows kept now is told onto taken
 
-pub lines_keep : (n : ℕ) (rows : List Row) (kept now : List StoredRows) (k : StoredRows) → ((bytes : List ℕ) × (rows ≡ line_rows bytes)) → k.number ≡ n → k.rows ≡ rows → now ≡ kept ++ k ∷ []
+pub lines_keep : (n : ℕ) (rows : List Row) (kept now : Kept) → ((bytes : List ℕ) × (rows ≡ line_rows bytes)) → KeepsOneMore kept n rows now
     → (script : Script) → KeepsOn script (do_line n) kept now
-lines_keep n rows kept now k lines number same onto = λ script. input_keeps script n rows kept now k lines number same onto
+lines_keep n rows kept now lines onto = λ script. input_keeps script n rows kept now lines onto
 
-pub lines_want : (holds : Option Holdings) (fixed : Bool) (n : ℕ) (input : List ℕ) (kept : List StoredRows) (e : RunErr) → e ≡ errors.NoMemory
+pub lines_want : (holds : Option Holdings) (fixed : Bool) (n : ℕ) (input : List ℕ) (kept : Kept) (e : RunErr) → e ≡ errors.NoMemory
     → (script : Script) (name : List ℕ) (taken : Option (List ℕ)) → statement_at script n ≡ Some (line name (lines_form input)) → Stops script holds fixed (do_line n) kept taken e taken
 lines_want holds fixed n input kept e none = λ script name taken is. memory_stops script holds fixed (do_line n) kept e none taken

@@ -1,8 +1,6 @@
 -- What the end of a call says of the script, and of what standard error took.
-use Rattle.std.specs.Prelude.{◌≡◌, ◌⊎◌, ℕ, List, Option, None, Some, Result, Err}
-use Rattle.row_defs.specs.declared.cause.Cause.{Cause}
+use Rattle.std.specs.Prelude.{◌≡◌, ◌⊎◌, ℕ, List, Option, None, Some}
 use Rattle.row_defs.specs.Inputs.{Inputs}
-use Rattle.script_defs.specs.Scripts.{Script}
 use Rattle.dia_edge.specs.Counts.{HasRisen}
 use Rattle.dia_edge.specs.Sinks.{TookAll, TookPrefix}
 use Rattle.job_words.specs.Faults.{fault_line, fault_status}

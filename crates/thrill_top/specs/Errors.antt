@@ -1,6 +1,7 @@
 -- How the errors of the layers below end a call, and the counts that they tell.
 use Rattle.std.specs.Prelude.{ℕ, List, Option, None, Some, Result, Ok, Err}
 use Rattle.dia_edge.specs.Counts.{TellsCount}
+use Rattle.dia_edge.specs.declared.refusals.NoMemory.{NoMemory}
 use Rattle.dia_lines.specs.declared.input.InputErr as inputs
 use Rattle.dia_lines.specs.declared.input.InputErr.TheVariants as input_errors
 use Rattle.actions.specs.declared.action.ActErr as acts
@@ -15,10 +16,11 @@ use Rattle.thrill_top.specs.declared.stage.RunErr.{RunErr}
 use Rattle.thrill_top.specs.declared.stage.RunErr.TheVariants as run_errors
 
 -- a line of an input wasn't read
-abbrev pub input_error : List ℕ → inputs.InputErr → RunErr
+abbrev pub input_error : List ℕ → inputs.InputErr NoMemory → RunErr
 input_error name input_errors.Missing = run_errors.Missing name
 input_error name (input_errors.LineTooLong line) = run_errors.LineTooLong name line
 input_error name input_errors.InputTooLong = run_errors.InputTooLong name
+input_error name (input_errors.Refused none) = run_errors.NoMemory
 input_error name (input_errors.Read count) = run_errors.Read count
 input_error name input_errors.NoMemory = run_errors.NoMemory
 

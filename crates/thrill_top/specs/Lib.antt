@@ -1,4 +1,5 @@
 pub mod Errors
 pub mod Ends
 pub mod Promise
+pub mod Asking
 pub mod Steps

@@ -1,7 +1,10 @@
 //! Reads a script and runs it.
-ghost use Rattle.std.specs.Prelude.{◌≡◌, ◌⊎◌, ℕ, List, Some, IfErr};
+ghost use Rattle.std.specs.Prelude.{◌≡◌, ◌⊎◌, ◌∷◌, ℕ, List, Some, IfErr};
 ghost use Rattle.row_defs.specs.Inputs.{Inputs};
+ghost use Rattle.script_defs.specs.Scripts.{Script};
+ghost use Rattle.dia_lines.specs.Inputs.{Asks};
 ghost use Rattle.job_words.specs.declared.fault.TopFault.TheVariants as faults;
+ghost use Rattle.thrill_top.specs.Asking.{IsScriptAt, inputs_needed};
 ghost use Rattle.thrill_top.specs.Ends.{IsCallFault, status_in};
 ghost use Rattle.thrill_top.specs.Errors.{bytes_fault, script_fault, run_fault};
 ghost use Rattle.thrill_top.specs.Promise.{TellsInputs, TellsScript, EndsCall, fault_in};
@@ -64,6 +67,8 @@ pub(crate) fn run_script<R: Wait, N: Shelf, S: Sink>(
         → EndsCall inputs name.now (S.taken out.old) (fault_in result) (S.taken out.new) }
     ensures script { (inputs : Inputs) → TellsInputs (N.holds shelf.old) (N.is_fixed shelf.old) inputs
         → TellsScript inputs name.now (fault_in result) (status_in (fault_in result)) (out.new ≡ out.old) }
+    ensures asked { (inputs : Inputs) (script : Script) → TellsInputs (N.holds shelf.old) (N.is_fixed shelf.old) inputs → IsScriptAt inputs name.now script
+        → Asks N.Shelf shelf.old shelf.new (name.now ∷ inputs_needed script) result }
     ensures fault { IfErr result (λ f. IsCallFault f (N.faults shelf.old) (N.faults shelf.new) (S.faults out.old) (S.faults out.new) (out.new ≡ out.old)) }
 {
     let bytes = match read_bytes(alloc, shelf, name) {

@@ -1,7 +1,8 @@
 //! Reads the bytes of a script.
-ghost use Rattle.std.specs.Prelude.{◌≡◌, ◌≤◌, ◌≢◌, ℕ, List, take, true, length, Some, OnErr, IfOk, IfErr, IfSome, is_some};
+ghost use Rattle.std.specs.Prelude.{◌≡◌, ◌≤◌, ℕ, List, [], ◌∷◌, take, length, Some, OnErr, IfOk, IfErr, IfSome};
 ghost use Rattle.row_defs.specs.Inputs.{Inputs};
 ghost use Rattle.dia_edge.specs.Counts.{HasRisen};
+ghost use Rattle.dia_lines.specs.Inputs.{Stays, Asks};
 ghost use Rattle.thrill_top.specs.Ends.{IsAbsentBytes};
 ghost use Rattle.thrill_top.specs.Errors.{TellsBytes};
 ghost use Rattle.thrill_top.specs.Promise.{TellsInputs};
@@ -49,16 +50,15 @@ fn fill_buffer<N: Shelf>(shelf: &mut N, buffer: &mut [u8]) -> Result<usize, Fail
     ensures within { IfOk result (λ n. n ≤ length buffer.new) }
     ensures bytes { IfOk result (λ n. IfSome (N.left shelf.old) (λ all. take n buffer.new ≡ take (length buffer.new) all)) }
     ensures rose { OnErr result (HasRisen (N.faults shelf.old) (N.faults shelf.new)) }
-    ensures counts { N.faults shelf.old ≤ N.faults shelf.new }
-    ensures fixed { N.is_fixed shelf.old ≡ true → (N.is_fixed shelf.new ≡ true) × (N.holds shelf.new ≡ N.holds shelf.old) }
+    ensures stays { Stays N.Shelf shelf.old shelf.new }
+    ensures asked { N.asked shelf.new ≡ N.asked shelf.old }
 {
     let mut total = 0;
     while total < buffer.len() {
         let (_, room) = buffer.split_at_mut(total);
-        match shelf.read(room) {
-            Ok(0) => return Ok(total),
-            Ok(n) => total += n,
-            Err(e) => return Err(e),
+        match shelf.read(room)? {
+            0 => return Ok(total),
+            n => total += n,
         }
     }
     Ok(total)
@@ -69,8 +69,8 @@ fn read_opened<N: Shelf>(alloc: Global, shelf: &mut N) -> Result<Vec<u8>, BytesE
     ensures bytes { IfOk result (λ bytes. IfSome (N.left shelf.old) (λ all. bytes.items ≡ take ASKED all)) }
     ensures told { IfErr result (λ e. TellsBytes e (N.faults shelf.old) (N.faults shelf.new)) }
     ensures late { IfErr result (λ e. (inputs : Inputs) (name : List ℕ) → IsAbsentBytes e inputs name) }
-    ensures counts { N.faults shelf.old ≤ N.faults shelf.new }
-    ensures fixed { N.is_fixed shelf.old ≡ true → (N.is_fixed shelf.new ≡ true) × (N.holds shelf.new ≡ N.holds shelf.old) }
+    ensures stays { Stays N.Shelf shelf.old shelf.new }
+    ensures asked { N.asked shelf.new ≡ N.asked shelf.old }
 {
     let mut bytes = new_buffer(alloc)?;
     match fill_buffer(shelf, bytes.as_mut_slice()) {
@@ -94,8 +94,8 @@ pub(crate) fn read_bytes<N: Shelf>(
         → IfOk result (λ bytes. (all : List ℕ) × (inputs name.now ≡ Some all) × (bytes.items ≡ take ASKED all)) }
     ensures absent { (inputs : Inputs) → TellsInputs (N.holds shelf.old) (N.is_fixed shelf.old) inputs → IfErr result (λ e. IsAbsentBytes e inputs name.now) }
     ensures told { IfErr result (λ e. TellsBytes e (N.faults shelf.old) (N.faults shelf.new)) }
-    ensures counts { N.faults shelf.old ≤ N.faults shelf.new }
-    ensures fixed { N.is_fixed shelf.old ≡ true → (N.is_fixed shelf.new ≡ true) × (N.holds shelf.new ≡ N.holds shelf.old) }
+    ensures stays { Stays N.Shelf shelf.old shelf.new }
+    ensures asked { Asks N.Shelf shelf.old shelf.new (name.now ∷ []) result }
 {
     match shelf.open(name.text()) {
         Ok(true) => read_opened(alloc, shelf),

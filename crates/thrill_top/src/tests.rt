@@ -1,8 +1,11 @@
 //! Worked rows of the top call.
 
+mod sizes;
+
 use super::*;
 use dia_edge::{MemDisk, MemShelf, MemSink, Name, NoMemory, OpenGate};
 use std::alloc::Global;
+use std::process::Abort;
 use std::sync::Wait;
 use std::test::Fail;
 
@@ -38,15 +41,24 @@ fn file(alloc: Global, name: &str, bytes: &[u8]) -> Result<(Name, Vec<u8>), NoMe
     Ok((Name::of(alloc, name)?, Vec::from_slice(alloc, bytes)?))
 }
 
-/// Whether the call ends with this status, and writes just these bytes.
-fn ends<R: Wait>(
+/// Bytes as a text, where they are one.
+fn text(bytes: &[u8]) -> &str {
+    match str::from_utf8(bytes) {
+        Ok(text) => text,
+        Err(_) => "(not UTF-8)",
+    }
+}
+
+/// Checks that the call ends with this status and writes just these bytes, and asked for these names.
+fn ends<R: Wait + Abort>(
     rt: &R,
     alloc: Global,
     case: &Case<'_>,
     status: u8,
     out: &[u8],
     err: &[u8],
-) -> Result<bool, NoMemory> {
+    asked: Option<&[&str]>,
+) -> Result<(), NoMemory> {
     let mut files = Vec::new(alloc);
     if case.script.len() > 0 {
         files.push(file(alloc, "s", case.script)?)?;
@@ -69,7 +81,26 @@ fn ends<R: Wait>(
         disk,
         &OpenGate,
     );
-    Ok(end.status == status && stdout.bytes() == out && stderr.bytes() == err)
+    let script = text(case.script);
+    assert_eq!(rt;
+        (end.status, text(stdout.bytes()), text(stderr.bytes())),
+        (status, text(out), text(err)),
+        "the script {script}"
+    );
+    assert!(rt; stdout.bytes() == out, "the script {script}");
+    if let Some(asked) = asked {
+        assert!(rt; are_named(shelf.asked(), asked), "the script {script}");
+    }
+    Ok(())
+}
+
+/// Whether these are the names, in order.
+fn are_named(names: &[Name], texts: &[&str]) -> bool {
+    names.len() == texts.len()
+        && names
+            .iter()
+            .zip(texts)
+            .all(|(name, text)| name.text() == *text)
 }
 
 const RUN: &[&str] = &["run", "s"];
@@ -194,6 +225,27 @@ const ROWS: &[Row<'static>] = &[
         b"",
     ),
     (
+        b"g = generate 4294967296\na = flatmap g spread 0 16\nb = flatmap a spread 0 16\nc = flatmap b spread 0 16\nsize c\n",
+        &[],
+        7,
+        b"",
+        b"thrill: script line 5: too many rows\n",
+    ),
+    (
+        b"g = generate 4294967296\na = flatmap g spread 0 16\nb = flatmap a spread 0 16\nc = flatmap b spread 0 16\nsum c 0\n",
+        &[],
+        7,
+        b"",
+        b"thrill: script line 5: too many rows\n",
+    ),
+    (
+        b"g = generate 4294967296\na = flatmap g spread 0 16\nb = flatmap a spread 0 16\nc = flatmap b spread 0 16\nprint c\n",
+        &[],
+        7,
+        b"",
+        b"thrill: script line 5: too many rows\n",
+    ),
+    (
         b"a = generate 1\na = zork b\n",
         &[],
         3,
@@ -223,114 +275,135 @@ const ROWS: &[Row<'static>] = &[
     ),
 ];
 
-/// Whether each row ends as it says, where the shelf gives so many bytes at a time.
-fn all_end<R: Wait>(rt: &R, alloc: Global, step: usize) -> Result<bool, NoMemory> {
+/// Checks each row, where the shelf gives so many bytes at a time.
+fn all_end<R: Wait + Abort>(rt: &R, alloc: Global, step: usize) -> Result<(), NoMemory> {
     for (script, inputs, status, out, err) in ROWS {
-        if !ends(rt, alloc, &case_of(script, inputs, step), *status, out, err)? {
-            return Ok(false);
-        }
+        ends(
+            rt,
+            alloc,
+            &case_of(script, inputs, step),
+            *status,
+            out,
+            err,
+            None,
+        )?;
     }
-    Ok(true)
+    Ok(())
 }
 
 const A: &[(&str, &[u8])] = &[("in", b"a\n")];
 
 /// Objects that fail, and words that mean nothing.
-fn refuses<R: Wait>(rt: &R, alloc: Global, step: usize) -> Result<bool, NoMemory> {
+fn refuses<R: Wait + Abort>(rt: &R, alloc: Global, step: usize) -> Result<(), NoMemory> {
     let shelf = Case {
         shelf_fails: 2,
         ..case_of(TWICE, A, step)
     };
+    ends(
+        rt,
+        alloc,
+        &shelf,
+        8,
+        b"",
+        b"thrill: read failed\n",
+        Some(&["s"]),
+    )?;
     let out = Case {
         out_fails: 1,
         ..case_of(TWICE, A, step)
     };
+    ends(
+        rt,
+        alloc,
+        &out,
+        9,
+        b"",
+        b"thrill: write failed\n",
+        Some(&["s", "in"]),
+    )?;
     let err = Case {
         err_fails: 1,
         ..case_of(b"", A, step)
     };
+    ends(rt, alloc, &err, 4, b"", b"", Some(&["s"]))?;
+    // A number's line and a fault's line are one write each.
+    let once = Case {
+        out_fails: 2,
+        err_fails: 2,
+        ..case_of(
+            b"g = generate 3\nsize g\nt = lines nowhere\nprint t\n",
+            A,
+            step,
+        )
+    };
+    ends(
+        rt,
+        alloc,
+        &once,
+        4,
+        b"3\n",
+        b"thrill: missing nowhere\n",
+        Some(&["s", "nowhere"]),
+    )?;
     let words = Case {
         words: &["run"],
         ..case_of(TWICE, A, step)
     };
-    Ok(
-        ends(rt, alloc, &shelf, 8, b"", b"thrill: read failed\n")?
-            && ends(rt, alloc, &out, 9, b"", b"thrill: write failed\n")?
-            && ends(rt, alloc, &err, 4, b"", b"")?
-            && ends(rt, alloc, &words, 2, b"", b"thrill: usage\n")?,
-    )
+    ends(rt, alloc, &words, 2, b"", b"thrill: usage\n", Some(&[]))
 }
 
 #[test]
 fn scripts_run(rt: HostRuntime) -> Result<(), Fail> {
-    assert!(rt; all_end(&rt, rt.alloc(), 1)?);
-    assert!(rt; all_end(&rt, rt.alloc(), 1000)?);
+    all_end(&rt, rt.alloc(), 1)?;
+    all_end(&rt, rt.alloc(), 1000)?;
     Ok(())
 }
 
-/// Whether two actions on one input end so, where this call of the shelf fails.
-fn twice_used<R: Wait>(
+/// Checks how two actions on one input end, where this call of the shelf fails.
+fn twice_used<R: Wait + Abort>(
     rt: &R,
     alloc: Global,
     call: u64,
     status: u8,
     err: &[u8],
-) -> Result<bool, NoMemory> {
+) -> Result<(), NoMemory> {
     let case = Case {
         shelf_fails: call,
         ..case_of(TEXTS, A, 1000)
     };
     let out: &[u8] = if status == 0 { b"1\na\n" } else { b"" };
-    ends(rt, alloc, &case, status, out, err)
+    ends(rt, alloc, &case, status, out, err, Some(&["s", "in"]))
 }
 
 #[test]
 fn an_input_of_two_actions_is_read_once(rt: HostRuntime) -> Result<(), Fail> {
-    assert!(rt; twice_used(&rt, rt.alloc(), 6, 8, b"thrill: read failed\n")?);
-    assert!(rt; twice_used(&rt, rt.alloc(), 7, 0, b"")?);
+    twice_used(&rt, rt.alloc(), 6, 8, b"thrill: read failed\n")?;
+    twice_used(&rt, rt.alloc(), 7, 0, b"")?;
+    Ok(())
+}
+
+/// A script with lines that no action needs, and two lines of one input.
+const SOME_NEEDED: &[u8] =
+    b"n = lines nowhere\na = lines in\nb = lines in\nsize b\nsize a\nsize b\n";
+
+#[test]
+fn just_the_inputs_that_actions_need_are_opened(rt: HostRuntime) -> Result<(), Fail> {
+    let case = case_of(SOME_NEEDED, A, 1000);
+    ends(
+        &rt,
+        rt.alloc(),
+        &case,
+        0,
+        b"1\n1\n1\n",
+        b"",
+        Some(&["s", "in", "in"]),
+    )?;
     Ok(())
 }
 
 #[test]
 fn faults_have_their_status_and_line(rt: HostRuntime) -> Result<(), Fail> {
-    assert!(rt; refuses(&rt, rt.alloc(), 1)?);
-    assert!(rt; refuses(&rt, rt.alloc(), 1000)?);
-    Ok(())
-}
-
-/// Whether a line of so many bytes ends the call so.
-fn long_line<R: Wait>(
-    rt: &R,
-    alloc: Global,
-    line: &[u8],
-    step: usize,
-    status: u8,
-    out: &[u8],
-    err: &[u8],
-) -> Result<bool, NoMemory> {
-    let script = b"t = lines in\nn = map t len f0\nsum n 0\n";
-    ends(
-        rt,
-        alloc,
-        &case_of(script, &[("in", line)], step),
-        status,
-        out,
-        err,
-    )
-}
-
-#[test]
-fn a_line_is_a_text_or_too_long(rt: HostRuntime) -> Result<(), Fail> {
-    let alloc = rt.alloc();
-    let mut long = Vec::new(alloc);
-    while long.len() < 65_537 {
-        long.push(b'a')?;
-    }
-    let (text, _) = long.as_slice().split_at(65_536);
-    let told = b"thrill: in line 1 too long\n";
-    for step in [1, 1000] {
-        assert!(rt; long_line(&rt, alloc, text, step, 0, b"65536\n", b"")?);
-        assert!(rt; long_line(&rt, alloc, long.as_slice(), step, 5, b"", told)?);
-    }
+    refuses(&rt, rt.alloc(), 1)?;
+    refuses(&rt, rt.alloc(), 1000)?;
     Ok(())
 }

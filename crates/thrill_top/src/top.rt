@@ -1,11 +1,12 @@
 //! The top call.
-ghost use Rattle.std.specs.Prelude.{◌≡◌, ◌≢◌, ◌↔◌, ◌⊎◌, ℕ, List, None, Some, MatchOption};
+ghost use Rattle.std.specs.Prelude.{◌≡◌, ◌≢◌, ◌↔◌, ◌⊎◌, ◌∷◌, ℕ, List, None, Some, MatchOption};
 ghost use Rattle.script_defs.specs.Scripts.{Script};
 ghost use Rattle.row_defs.specs.Inputs.{Inputs};
 ghost use Rattle.row_defs.specs.declared.cause.Cause.{Cause};
 ghost use Rattle.dia_edge.specs.Counts.{HasRisen};
 ghost use Rattle.job_words.specs.Faults.{fault_status};
 ghost use Rattle.job_words.specs.Words.{script_of};
+ghost use Rattle.thrill_top.specs.Asking.{IsScriptAt, inputs_needed, AskedFor};
 ghost use Rattle.thrill_top.specs.Ends.{TookLine};
 ghost use Rattle.thrill_top.specs.Errors.{TellsFault};
 ghost use Rattle.thrill_top.specs.Promise.{TellsInputs, EndsCall, IsReadable, IsRefusedScript, IsRefusedWith, IsAbsentWith, IsExcused, IsWhole};
@@ -76,8 +77,14 @@ pub fn thrill_call<R: Wait, N: Shelf, S: Sink, E: Sink, D: Disk + Send, G: Gate 
         → script_of words.now ≡ Some name → IsReadable inputs name script
         → (HasRisen (N.faults shelf.old) (N.faults shelf.new) → ⊥) → (HasRisen (S.faults out.old) (S.faults out.new) → ⊥)
         → IsWhole script inputs result.status }
-    // Status 2 comes exactly where the words mean nothing.
+    // A shelf that tells was asked for the script, and then for the input of each `lines` line that an action needs, once
+    // for each line and in the order of work: at 0 for all of them, else for some first ones; and for nothing else.
+    ensures asked { (inputs : Inputs) (name : List ℕ) (script : Script) → TellsInputs (N.holds shelf.old) (N.is_fixed shelf.old) inputs
+        → script_of words.now ≡ Some name → IsScriptAt inputs name script
+        → AskedFor N.Shelf shelf.old shelf.new (name ∷ inputs_needed script) result.status }
+    // Status 2 comes exactly where the words mean nothing; the shelf wasn't called then.
     ensures usage { (result.status ≡ 2) ↔ (script_of words.now ≡ None) }
+    ensures unread { result.status ≡ 2 → shelf.new ≡ shelf.old }
     // A fault of the shelf or of `out` tells the count now, which rose in this call; so 8 and 9 come only where it did.
     ensures counts { MatchOption result.fault (Unit {0}) (λ f. TellsFault f (N.faults shelf.old) (N.faults shelf.new) (S.faults out.old) (S.faults out.new)) }
     ensures read { result.status ≡ 8 → HasRisen (N.faults shelf.old) (N.faults shelf.new) }

@@ -1,12 +1,23 @@
-use Rattle.std.proofs.Common.{arith, refl}
-use Rattle.dia_lines.proofs.InputLemmas.{reading_none}
+use Rattle.std.proofs.Common.{◌≡◌, Err, arith, rules, refl}
+use Rattle.dia_edge.proofs.ShelfLemmas.{stays_none}
+use Rattle.dia_lines.proofs.InputLemmas.{reading_none, input_from}
 use Rattle.dia_lines.proofs.input.take_all.Goals as goal
 
 pub loop-total-init : goal.loop-total-init
 loop-total-init g c = record {
-  reading = reading_none c.args.taker.now (g.N.Shelf.left c.args.shelf.now) c.requires.taken;
-  few = omega arith;
-  lines = omega (arith, c.requires.lines);
-  counts = omega arith;
-  fixed = λ fixed. (fixed, refl);
+  reading = reading_none g.T.LineTaker c.args.taker.now c.args.cutter.now (g.N.Shelf.left c.args.shelf.now) c.requires.taken;
+  within = omega arith;
+  few = omega (arith, c.requires.none);
+  stays = stays_none g.N.Shelf.holds g.N.Shelf.left g.N.Shelf.asked g.N.Shelf.is_fixed g.N.Shelf.faults c.args.shelf.now;
+  asked = refl;
+  serves = c.requires.serves;
+  follows = g.met.T.LineTaker.follows_refl c.args.desk.now;
 }
+
+pub returns-in_err-n-clause-refused : goal.returns-in_err-n-clause-refused
+returns-in_err-n-clause-refused g c =
+    let e = c.in_err-n.field-0.0 in
+    let same : c.from_residual.result ≡ Err e = search rules in
+    let i = c.loop-total.invariant in
+    rw same (input_from g.T.LineTaker g.met.T.LineTaker.refused_from e (g.N.Shelf.left c.args.shelf.now) c.args.taker.now c.take_piece.new.taker c.args.desk.now c.loop-total.desk
+    c.take_piece.new.desk i.follows (c.in_err-n.ensures.refused c.args.taker.now (g.N.Shelf.left c.args.shelf.now) i.reading))

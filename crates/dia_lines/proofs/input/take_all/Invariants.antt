@@ -1,14 +1,16 @@
-use Rattle.std.proofs.Common.{◌≡◌, ◌≤◌, ◌-◌, true}
-use Rattle.dia_lines.specs.Inputs.{IsReading}
+use Rattle.std.proofs.Common.{◌≡◌, ◌≤◌, ◌-◌}
+use Rattle.dia_lines.specs.Inputs.{Stays, IsReading}
 use Rattle.dia_lines.proofs.input.take_all.Given as goal
 
 abbrev pub invariant-loop-total : goal.invariant-loop-total
 invariant-loop-total g l = record {
-  reading : IsReading (g.N.Shelf.left l.fn.shelf) l.taker l.total (g.N.Shelf.left l.shelf);
-  few : l.total ≤ 4294967296;
-  lines : l.taker.lines ≤ l.total;
-  counts : g.N.Shelf.faults l.fn.shelf ≤ g.N.Shelf.faults l.shelf;
-  fixed : g.N.Shelf.is_fixed l.fn.shelf ≡ true → (g.N.Shelf.is_fixed l.shelf ≡ true) × (g.N.Shelf.holds l.shelf ≡ g.N.Shelf.holds l.fn.shelf);
+  reading : IsReading g.T.LineTaker (g.N.Shelf.left l.fn.shelf) l.fn.taker l.taker l.cutter l.total (g.N.Shelf.left l.shelf);
+  within : l.total ≤ 4294967296;
+  few : l.cutter.ended ≤ l.total;
+  stays : Stays g.N.Shelf l.fn.shelf l.shelf;
+  asked : g.N.Shelf.asked l.shelf ≡ g.N.Shelf.asked l.fn.shelf;
+  serves : g.T.LineTaker.serves l.taker l.desk;
+  follows : g.T.LineTaker.follows l.fn.desk l.desk;
 }
 
 abbrev pub decreases-loop-total : goal.decreases-loop-total

@@ -1,8 +1,6 @@
 use Rattle.std.proofs.Common.{◌≡◌, ◌++◌, map}
-use Rattle.row_defs.specs.LocalOps.{rows_through, AreSoundOps}
 use Rattle.dia_item.specs.Lent.{row_in_ref}
 use Rattle.lop_chain.specs.Calls.{TookAllBut}
-use Rattle.lop_chain.specs.Made.{MakesAsBefore}
 use Rattle.lop_chain.specs.Chains.{chain_ops}
 use Rattle.lop_chain.specs.Ops.{rows_from}
 use Rattle.row_feed.proofs.feeding.feed_lines.Given as goal
@@ -11,7 +9,7 @@ abbrev pub invariant-loop-row : goal.invariant-loop-row
 invariant-loop-row g l = record {
   parts : map row_in_ref l.yielded ++ l.row-iterator ≡ l.rows;
   but : TookAllBut g.S.RowSink l.fn.sink l.fn.desk (rows_from (chain_ops l.fn.chain) l.rows) (rows_from (chain_ops l.fn.chain) l.row-iterator) l.sink l.desk;
-  same : MakesAsBefore (λ x from to. AreSoundOps from (chain_ops x) to) (λ x row rows. rows ≡ rows_through (chain_ops x) row) l.fn.chain l.chain;
+  same : chain_ops l.chain ≡ chain_ops l.fn.chain;
   follows : g.S.RowSink.follows l.fn.desk l.desk;
   stays : g.S.RowSink.stays l.fn.sink l.sink;
 }

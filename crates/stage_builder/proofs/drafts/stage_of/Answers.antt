@@ -2,11 +2,12 @@ use Rattle.std.proofs.Common.{ℕ, Some, sym, ap, ◌∙◌, subst}
 use Rattle.script_defs.specs.Scripts.{Statement, IsLineIn}
 use Rattle.script_read.specs.Statements.{statement_in, action_in}
 use Rattle.run_laws.proofs.KindLemmas.{action_line}
+use Rattle.stage_builder.specs.Tables.{script_in}
 use Rattle.stage_builder.proofs.drafts.stage_of.Goals as goal
 
 pub operand_of-requires-clause-line : goal.operand_of-requires-clause-line
 operand_of-requires-clause-line c =
-    let script = c.args.script.now in
+    let script = script_in c.args.lines.now in
     let Line : ℕ → Type 0 = λ n. IsLineIn script n in
     let at = c.requires.stands ∙ ap (λ (s : Statement). Some s) (ap statement_in c.in-Act.is) in
     subst Line (sym c.operand.ensures) (action_line script c.args.item.now.line (action_in c.in-Act.action) c.requires.sound at)

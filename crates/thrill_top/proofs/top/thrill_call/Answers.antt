@@ -1,6 +1,7 @@
-use Rattle.std.proofs.Common.{Some, None, refl}
+use Rattle.std.proofs.Common.{Some, None, refl, sym, ◌∙◌}
 use Rattle.job_words.specs.Faults.{fault_status}
-use Rattle.thrill_top.proofs.EndLemmas.{whole_0, complete_so, ends_named, script_named}
+use Rattle.thrill_top.proofs.EndLemmas.{whole_0, complete_so, ends_named, script_named, status_says}
+use Rattle.thrill_top.proofs.AskLemmas.{called_whole, called_cut}
 use Rattle.thrill_top.proofs.top.thrill_call.Goals as goal
 
 pub returns-in-Ok-clause-refused : goal.returns-in-Ok-clause-refused
@@ -33,3 +34,14 @@ returns-in-Err-clause-complete g c = λ inputs name script tells named readable 
     let f = c.in-Err.fault in
     let ends = ends_named inputs c.in-Some.name.now name _ (Some f) _ _ c.in-Some.ensures named (c.in-Err.ensures.ends inputs tells) in
     complete_so inputs name _ script _ (Some f) c.end_with-in-Err.result.status _ _ _ _ ends c.end_with-in-Err.ensures.status c.in-Err.ensures.fault.tells readable shelf out
+
+pub returns-in-Ok-clause-asked : goal.returns-in-Ok-clause-asked
+returns-in-Ok-clause-asked g c = λ inputs name script tells named.
+    called_whole g.N.Shelf inputs c.in-Some.name.now name _ c.args.shelf.now c.run_script.new.shelf 0 c.in-Some.ensures named
+    (λ mine at. c.in-Ok.ensures.asked inputs mine tells at) script
+
+pub returns-in-Err-clause-asked : goal.returns-in-Err-clause-asked
+returns-in-Err-clause-asked g c = λ inputs name script tells named.
+    let says = status_says c.in-Err.fault _ _ _ _ _ c.in-Err.ensures.fault in
+    called_cut g.N.Shelf inputs c.in-Some.name.now name _ c.args.shelf.now c.run_script.new.shelf _ c.in-Some.ensures named (λ zero. says.some (sym c.end_with-in-Err.ensures.status ∙ zero))
+    (λ mine at. c.in-Err.ensures.asked inputs mine tells at) script

@@ -1,5 +1,0 @@
-use Rattle.std.proofs.Common.{length}
-use Rattle.stage_builder.proofs.marks.+push_roots.Given as goal
-
-abbrev pub decreases-push_roots : goal.decreases-push_roots
-decreases-push_roots l = length l.stages.now

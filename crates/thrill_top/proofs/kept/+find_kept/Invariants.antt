@@ -1,5 +1,0 @@
-use Rattle.std.proofs.Common.{length}
-use Rattle.thrill_top.proofs.kept.+find_kept.Given as goal
-
-abbrev pub decreases-find_kept : goal.decreases-find_kept
-decreases-find_kept l = length l.kept.now
