@@ -2,7 +2,7 @@
 use Rattle.std.proofs.Common.{◌≡◌, ℕ, zero, suc, ◌+◌, true, List, [], ◌∷◌, length, drop, Some, Option, Result, Ok, Err, IfOk, OnOk, IfErr, OnErr, IfSome, IfNone, slice_get, zero-add, refl, sym, ap, subst, ◌∙◌, arith}
 use Rattle.std.proofs.Math.Numerals.{suc-eq-add-one}
 use Rattle.row_defs.specs.Rows.{Row}
-use Rattle.block_pool.specs.Handles.{HandValue, PoolName, Follows}
+use Rattle.block_pool.specs.Handles.{HandValue, PoolName, Follows, SameTally}
 use Rattle.block_pool.specs.Follows.{follows_trans}
 use Rattle.pool_core.specs.declared.refusals.PinErr.{PinErr}
 use Rattle.dia_item.specs.declared.row_ref.RowRef.{RowRef}
@@ -17,6 +17,7 @@ pub record PassedSoFar (first : HandValue) (from : KeeperValue) (hand : HandValu
   pub count : length reader.left + n ≡ length from.left
   pub told : first.pool.opening.tells ≡ true → reader.left ≡ drop n from.left
   pub permits : hand.permits + reader.pinned ≡ first.permits + from.pinned
+  pub tally : SameTally first.notes hand.notes
   pub follows : Follows first hand
 
 -- the next row is passed too
@@ -49,8 +50,8 @@ gave_row r o row h k a b all e f =
 
 pub passed_on :
     (first h k : HandValue) (from a b : KeeperValue) (n : ℕ) (r : Result (Option RowRef) PinErr) (o : Option RowRef) (row : RowRef)
-    → PassedSoFar first from h a n → Answers r h k a b → Follows h k → r ≡ Ok o → o ≡ Some row → PassedSoFar first from k b (n + 1)
-passed_on first h k from a b n r o row i all follows e f =
+    → PassedSoFar first from h a n → Answers r h k a b → SameTally h.notes k.notes → Follows h k → r ≡ Ok o → o ≡ Some row → PassedSoFar first from k b (n + 1)
+passed_on first h k from a b n r o row i all tally follows e f =
     let gives = gave_row r o row h k a b all e f in
     let keeps = all.2 in
     let P : FileValue → Type 0 = λ x. IsFileOf h.pool x in
@@ -63,6 +64,7 @@ passed_on first h k from a b n r o row i all follows e f =
           let here = ap (λ (x : PoolName). x.opening.tells) i.follows.pool ∙ tells in
           sym (drop_more from.left n (row_in_ref row) b.left (sym (i.told tells) ∙ gives.told here)).0;
       permits = keeps.permits ∙ i.permits;
+      tally = (tally.0 ∙ i.tally.0, tally.1 ∙ i.tally.1);
       follows = follows_trans first h k i.follows follows;
     }
 

@@ -16,9 +16,11 @@ use Rattle.dia_file.specs.Encoding.{encoded}
 use Rattle.dia_file.specs.Pieces.{over}
 use Rattle.dia_file.specs.Frames.{blocks_of, AllSealedIn, AreBlocksOf}
 use Rattle.dia_file.specs.Files.{joined_blocks}
-use Rattle.dia_file.specs.Places.{at_spot, held_list, pins, ahead_items, file_items, begun_at, current, rows_left, Leaves, IsPlaced, Telling, Tells, Moved}
+use Rattle.dia_file.specs.Places.{at_spot, held_list, pins, block_count, ahead_items, file_items, begun_at, current, rows_left, Leaves, IsPlaced, Telling, Tells, Moved}
+use Rattle.dia_file.specs.Tallies.{Frees}
 use Rattle.dia_file.specs.Readers.{IsReading}
 use Rattle.dia_file.specs.Consumers.{ConsumerValue, consumer_value, spot, IsConsumer, Drains}
+use Rattle.dia_file.proofs.Tallying.{count_blocks}
 use Rattle.dia_file.proofs.RowBytes.{encoded-append}
 use Rattle.dia_file.proofs.FileLemmas.{in_bytes}
 use Rattle.dia_file.proofs.Steps.{left_told}
@@ -93,9 +95,9 @@ left_bytes kinds x pool r own frees tells =
 pub drains :
     (w : Inside) (v : ConsumerValue) (first last : HandValue) (p : Place) (a h k b i j : ℕ) → consumer_value w ≡ v → IsConsumer w → AreOfPool first.pool v.blocks
     → Moved (kind_list w.kinds) first.pool (spot w) (at_spot p a h k) → IsReading (kind_list w.kinds) (at_spot p b i j)
-    → last.permits + pins p.shown ≡ first.permits + pins w.place.shown → Follows first last
+    → last.permits + pins p.shown ≡ first.permits + pins w.place.shown → Frees (block_count w.place) (block_count p) first.notes last.notes → Follows first last
     → Drains first last v (consumer_value (moved_to w p b i j))
-drains w v first last p a h k b i j is consumer own moved reading permits follows =
+drains w v first last p a h k b i j is consumer own moved reading permits freed follows =
     let gone = items_left w first.pool p a h k consumer moved in
     let mine = own_items w v first.pool is own in
     let P : List Sealed → Type 0 = λ xs. AreBlocksOf first.pool xs in
@@ -108,6 +110,11 @@ drains w v first last p a h k b i j is consumer own moved reading permits follow
       own = subst Q (sym follows.pool) (All-from_recursion (λ (x : BlockValue). x.pool ≡ first.pool) (blocks_of (file_items (at_spot p b i j))) rest);
       permits = omega (arith, permits, pinned);
       one = pins_le p.shown;
+      gone =
+          let before = count_blocks consumer.reading.pool (spot w) consumer.reading.placed in
+          let all = ap (λ (x : ConsumerValue). length x.blocks) is in
+          let after = count_blocks reading.pool (at_spot p b i j) reading.placed in
+          (freed.0, omega (arith, freed.1, before, all, after));
       freed = λ tells. left_bytes (kind_list w.kinds) (at_spot p b i j) first.pool reading rest (moved.after ∙ consumer.frees) tells;
     }
 

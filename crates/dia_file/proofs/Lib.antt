@@ -1,5 +1,6 @@
 pub mod RowBytes
 pub mod PieceLemmas
+pub mod Tallying
 pub mod Spreading
 pub mod WriterLemmas
 pub mod FileLemmas

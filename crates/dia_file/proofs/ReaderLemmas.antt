@@ -13,6 +13,7 @@ use Rattle.dia_file.specs.Frames.{AllSealedIn, AreBlocksOf}
 use Rattle.dia_file.specs.Places.{at_spot, held_list, shown_bytes, pins, ahead_items, file_items, rows_left, IsHeld, IsPlaced, Tells, Moved, GaveRow, GivesNone}
 use Rattle.dia_file.specs.Readers.{IsReading, Gives, StaysAt}
 use Rattle.dia_file.proofs.PlaceLemmas.{kept_len, tells_moved}
+use Rattle.dia_file.proofs.Tallying.{length_held}
 use Rattle.dia_file.proofs.Steps.{Given, given_told, none_told, left_told, length_left}
 
 sealed-append : (pool : PoolName) (xs ys : List Sealed) → AllSealedIn pool xs → AllSealedIn pool ys → AllSealedIn pool (xs ++ ys)
@@ -68,10 +69,6 @@ first_pool old pool (x ∷ xs) h own some = sym h.0.of_pool ∙ own.0
 pub none_or_some : (n : ℕ) → (n ≡ 0) ⊎ (0 < n)
 none_or_some zero = inl refl
 none_or_some (suc n) = inr (omega arith)
-
-length_held : (o : Option Held) → length (held_list o) ≡ pins o
-length_held None = refl
-length_held (Some h) = refl
 
 some_items : (pool : PoolName) (p : Place) → IsPlaced pool p → 0 < p.here + p.ahead + pins p.shown → 0 < length (file_items p)
 some_items pool p h some =
@@ -278,6 +275,32 @@ misses_next kinds x pool p a h k b r at none =
       stays = record { count = omega (arith, before, after, count); told = λ tells. absurd (untold tells) };
       untold = untold;
     }
+
+pub readied :
+    (kinds : List Kind) (x : Place) (pool : PoolName) (p : Place) (a h k : ℕ) (more : Bool) → IsReading kinds x → AreBlocksOf pool (file_items x) → IsPlaced pool (at_spot p a h k)
+    → Moved kinds pool x (at_spot p a h k) → (0 ≡ x.here + x.ahead + pins x.shown → at_spot p a h k ≡ x) → OnTrue more ((0 < h) × (0 < k → a ≡ 0)) → more ≡ true
+    → Ready kinds x pool p a h k
+readied kinds x pool p a h k more reading own placed moved still some is =
+    let m = on_true ((0 < h) × (0 < k → a ≡ 0)) more is some in
+    record { reading = reading; own = own; placed = placed; moved = moved; still = still; some = m.0; start = m.1 }
+
+-- the row that `give` answered is the next one
+pub gave :
+    (kinds : List Kind) (x : Place) (pool : PoolName) (p : Place) (a h k b i j : ℕ) (row : Row) → Ready kinds x pool p a h k → b ≤ length (shown_bytes p.shown) → j ≡ 0
+    → GaveRow kinds (at_spot p a h k) row (at_spot p b i j) → kinds_of row ≡ kinds → i + 1 ≡ h → Gives pool kinds (rows_left kinds x) row (rows_left kinds (at_spot p b i j))
+gave kinds x pool p a h k b i j row r at none reads are one =
+    let P : ℕ → Type 0 = λ n. Gives pool kinds (rows_left kinds x) row (rows_left kinds (at_spot p b i n)) in
+    let Q : ℕ → Type 0 = λ n. GaveRow kinds (at_spot p a h k) row (at_spot p b i n) in
+    subst P (sym none) (gives_next kinds x pool p a h k b i row r at one (subst Q none reads) are).gives
+
+-- where it answered none, as many are left
+pub missed :
+    (kinds : List Kind) (x : Place) (pool : PoolName) (p : Place) (a h k b i j : ℕ) → Ready kinds x pool p a h k → b ≤ length (shown_bytes p.shown) → j ≡ 0
+    → GivesNone kinds (at_spot p a h k) → i ≡ h → StaysAt pool (rows_left kinds x) (rows_left kinds (at_spot p b i j))
+missed kinds x pool p a h k b i j r at none nothing same =
+    let P : ℕ → Type 0 = λ n. StaysAt pool (rows_left kinds x) (rows_left kinds (at_spot p b n j)) in
+    let Q : ℕ → Type 0 = λ n. StaysAt pool (rows_left kinds x) (rows_left kinds (at_spot p b h n)) in
+    subst P (sym same) (subst Q (sym none) (misses_next kinds x pool p a h k b r at nothing).stays)
 
 -- whatever `give` answered
 pub after_give :

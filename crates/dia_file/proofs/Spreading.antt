@@ -5,6 +5,7 @@ use Rattle.pool_core.specs.declared.refusals.FrameErr.{FrameErr}
 use Rattle.pool_core.specs.declared.refusals.FrameErr.TheVariants as frame
 use Rattle.dia_file.specs.declared.sealed.Sealed.{Sealed}
 use Rattle.dia_file.specs.Frames.{frame_bytes, frames, IsFrameIn, sealed_of, AreLong, joined, Spread, AreBlocksOf}
+use Rattle.dia_file.specs.Tallies.{Frees, Makes}
 
 pub fault_from : (e : FrameErr) (a b c : HandValue) → Follows a b → RefusesFrame b.notes c.notes e → RefusesFrame a.notes c.notes e
 fault_from (frame.Disk count) a b c p q = record { hits = omega (arith, p.grown.hits, q.hits); rose = q.rose; count_is = q.count_is }
@@ -40,16 +41,18 @@ spread_more pool (Some f) before mid after rest bytes h own some e =
     }
 
 -- what has come of putting bytes into frames so far
-pub record PutSoFar (first : HandValue) (before : List Sealed) (bytes : List ℕ) (hand : HandValue) (items : List Sealed) (f : Option FrameValue) (rest : List ℕ) : Type 0 where
+pub record PutSoFar (first : HandValue) (before : List Sealed) (bytes : List ℕ) (hand : HandValue) (items : List Sealed) (f : Option FrameValue) (rest : List ℕ) (n m : ℕ) : Type 0 where
   pub spread : Spread first.pool before items (frame_bytes f ++ rest) bytes
   pub some : 0 < length (frame_bytes f)
   pub one : frames f ≡ 1
   pub own : IsFrameIn first.pool f
   pub permits : hand.permits + 1 ≡ first.permits
+  pub made : Makes n m first.notes hand.notes
   pub follows : Follows first hand
 
 -- what has come of freeing blocks so far
-pub record FreedSoFar (first hand : HandValue) (items : List Sealed) : Type 0 where
+pub record FreedSoFar (first hand : HandValue) (items : List Sealed) (n m : ℕ) : Type 0 where
   pub own : AreBlocksOf first.pool items
   pub permits : hand.permits ≡ first.permits
+  pub gone : Frees n m first.notes hand.notes
   pub follows : Follows first hand

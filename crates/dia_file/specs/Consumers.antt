@@ -9,6 +9,7 @@ use Rattle.dia_file.specs.Frames.{blocks_of}
 use Rattle.dia_file.specs.Files.{joined_blocks}
 use Rattle.dia_file.specs.Places.{at_spot, pins, file_items, rows_left}
 use Rattle.dia_file.specs.Readers.{IsReading}
+use Rattle.dia_file.specs.Tallies.{Frees}
 use Rattle.dia_file.specs.declared.place.Place.{Place}
 use Rattle.dia_file.specs.declared.place.After.TheVariants.{Free}
 use Rattle.dia_file.specs.declared.consume.ConsumeReader.TheInside.{Inside}
@@ -36,7 +37,7 @@ pub record IsConsumer (r : Inside) : Type 0 where
   pub reading : IsReading (kind_list r.kinds) (spot r)
   pub frees : r.place.after ≡ Free
 
--- Blocks went from the start of the list, and those left are of the hand's pool. A permit goes with each block that is
+-- Blocks went from the start of the list and were freed, no other was, and those left are of the hand's pool. A permit goes with each block that is
 -- pinned: one or none. Where the disk tells, the blocks behind the pinned one have no bytes but those of rows that are left.
 pub record Drains (a b : HandValue) (before after : ConsumerValue) : Type 0 where
   pub kinds : after.kinds ≡ before.kinds
@@ -44,4 +45,5 @@ pub record Drains (a b : HandValue) (before after : ConsumerValue) : Type 0 wher
   pub own : AreOfPool b.pool after.blocks
   pub permits : b.permits + after.pinned ≡ a.permits + before.pinned
   pub one : after.pinned ≤ 1
+  pub gone : Frees (length before.blocks) (length after.blocks) a.notes b.notes
   pub freed : a.pool.opening.tells ≡ true → length (joined_blocks (drop after.pinned after.blocks)) ≤ length (encoded after.left)

@@ -4,6 +4,7 @@ pub mod Frames
 pub mod Weighing
 pub mod Writers
 pub mod Refusals
+pub mod Tallies
 pub mod Files
 pub mod Places
 pub mod Readers

@@ -34,6 +34,10 @@ abbrev pub pins : Option Held → ℕ
 pins None = 0
 pins (Some h) = 1
 
+-- how many blocks there are: those of the ring, and the one that is pinned
+abbrev pub block_count : Place → ℕ
+block_count p = pins p.shown + deque_len p.ring
+
 -- the blocks ahead, and all of them in their order: those behind, the one that is pinned, and those ahead
 abbrev pub ahead_items : Place → List Sealed
 ahead_items p = take p.ahead p.ring.items

@@ -1,10 +1,11 @@
 //! Readers that free their file.
-ghost use Rattle.std.specs.Prelude.{◌≡◌, ◌+◌, ◌<◌, ◌≤◌, [], IfOk, IfErr, OnErr, IfSome, IfNone};
+ghost use Rattle.std.specs.Prelude.{◌≡◌, ◌+◌, ◌<◌, ◌≤◌, [], IfOk, IfErr, OnErr, IfSome, IfNone, length};
 ghost use Rattle.std.specs.Borrow.{sem};
 ghost use Rattle.std.specs.Io.BufRead.{Rests};
 ghost use Rattle.dia_item.specs.Lent.{row_in_ref};
 ghost use Rattle.block_pool.specs.Handles.{AreOfPool, Follows};
 ghost use Rattle.dia_file.specs.Refusals.{RefusesRead};
+ghost use Rattle.dia_file.specs.Tallies.{Frees};
 
 use crate::moves::{put_back, ready};
 use crate::place::Place;
@@ -50,7 +51,7 @@ impl ConsumeReader {
     ///
     /// After a refusal the reader stands where it stood, and the next call goes on from there. The refusals are those of
     /// `KeepReader::next`.
-    #[inline]
+    #[inline(always)]
     pub fn next<'r, R: Wait, D: Disk>(
         &'r mut self,
         rt: &R,
@@ -67,7 +68,7 @@ impl ConsumeReader {
             × OnErr result (StaysAt hand.old.pool self.old.left new.left)
             × Drains hand.old hand.new self.old new)) }
     {
-        match ready(
+        if !ready(
             rt,
             &self.kinds,
             hand,
@@ -75,10 +76,8 @@ impl ConsumeReader {
             &mut self.at,
             &mut self.here,
             &mut self.kept,
-        ) {
-            Ok(true) => {}
-            Ok(false) => return Ok(None),
-            Err(refusal) => return Err(refusal),
+        )? {
+            return Ok(None);
         }
         match give(
             &self.kinds,
@@ -92,10 +91,11 @@ impl ConsumeReader {
         }
     }
 
-    /// Unpins what is pinned, and frees the blocks that are left. It has no refusal.
+    /// Unpins what is pinned, and frees the blocks that are left, no other. It has no refusal.
     pub fn end<R: Wait, D: Disk>(self, rt: &R, hand: &mut Hand<'_, D>)
         requires own { AreOfPool hand.old.pool self.blocks }
         ensures permits { hand.new.permits ≡ hand.old.permits + self.pinned }
+        ensures gone { Frees (length self.blocks) 0 hand.old.notes hand.new.notes }
         ensures follows { Follows hand.old hand.new }
     {
         let ConsumeReader {

@@ -3,6 +3,7 @@ ghost use Rattle.std.specs.Prelude.{◌≡◌, length};
 ghost use Rattle.dia_item.specs.KindList.{kind_list};
 ghost use Rattle.block_pool.specs.Handles.{Follows};
 ghost use Rattle.dia_file.specs.Encoding.{encoded};
+ghost use Rattle.dia_file.specs.Tallies.{Frees};
 
 use crate::consume::ConsumeReader;
 use crate::keep::KeepReader;
@@ -115,10 +116,11 @@ impl File {
         }
     }
 
-    /// Frees all blocks. It has no refusal.
+    /// Frees all blocks, and no other. It has no refusal.
     pub fn clear<R: Wait, D: Disk>(self, rt: &R, hand: &mut Hand<'_, D>)
         requires own { IsFileOf hand.old.pool self }
         ensures permits { hand.new.permits ≡ hand.old.permits }
+        ensures gone { Frees (length self.blocks) 0 hand.old.notes hand.new.notes }
         ensures follows { Follows hand.old hand.new }
     {
         let File {

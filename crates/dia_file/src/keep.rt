@@ -3,7 +3,7 @@ ghost use Rattle.std.specs.Prelude.{◌≡◌, ◌+◌, ◌<◌, ◌≤◌, [], 
 ghost use Rattle.std.specs.Borrow.{sem};
 ghost use Rattle.std.specs.Io.BufRead.{Rests};
 ghost use Rattle.dia_item.specs.Lent.{row_in_ref};
-ghost use Rattle.block_pool.specs.Handles.{Follows};
+ghost use Rattle.block_pool.specs.Handles.{Follows, SameTally};
 ghost use Rattle.dia_file.specs.Refusals.{RefusesRead};
 ghost use Rattle.dia_file.specs.Files.{IsFileOf};
 
@@ -52,7 +52,7 @@ impl KeepReader {
     /// After a refusal the reader stands where it stood, and the next call goes on from there. `Disk` comes only where the
     /// disk failed in this call, `NoMemory` where there was none for a block or for the buffer. `Damaged` never comes where
     /// the disk tells: the bytes that it showed weren't rows of the kinds, as many in each block as ended there.
-    #[inline]
+    #[inline(always)]
     pub fn next<'r, R: Wait, D: Disk>(
         &'r mut self,
         rt: &R,
@@ -62,6 +62,7 @@ impl KeepReader {
         requires permit { 0 < hand.old.permits + self.old.pinned }
         ensures refused { IfErr result (λ e. RefusesRead hand.old hand.new e) }
         ensures room { hand.old.permits + self.old.pinned ≤ hand.new.permits + 1 }
+        ensures tally { SameTally hand.old.notes hand.new.notes }
         ensures follows { Follows hand.old hand.new }
         ensures* after { sem 𝓛 (Rests the_row self.entry (λ new.
             IfOk result (λ o. IfSome o (λ row. Gives hand.old.pool self.old.file.kinds self.old.left (row_in_ref row) new.left × (new.pinned ≡ 1))
@@ -69,7 +70,7 @@ impl KeepReader {
             × OnErr result (StaysAt hand.old.pool self.old.left new.left)
             × Keeps hand.old hand.new self.old new)) }
     {
-        match ready(
+        if !ready(
             rt,
             &self.kinds,
             hand,
@@ -77,10 +78,8 @@ impl KeepReader {
             &mut self.at,
             &mut self.here,
             &mut self.kept,
-        ) {
-            Ok(true) => {}
-            Ok(false) => return Ok(None),
-            Err(refusal) => return Err(refusal),
+        )? {
+            return Ok(None);
         }
         match give(
             &self.kinds,
@@ -99,6 +98,7 @@ impl KeepReader {
         requires own { IsFileOf hand.old.pool self.file }
         ensures file { result ≡ self.file }
         ensures permits { hand.new.permits ≡ hand.old.permits + self.pinned }
+        ensures tally { SameTally hand.old.notes hand.new.notes }
         ensures follows { Follows hand.old hand.new }
     {
         let KeepReader {

@@ -3,6 +3,7 @@ ghost use Rattle.std.specs.Prelude.{◌≡◌, ◌+◌, ◌<◌, ◌≤◌, ◌+
 ghost use Rattle.std.specs.VecDeque.{deque_len, deque_capacity};
 ghost use Rattle.block_pool.specs.Handles.{Follows};
 ghost use Rattle.dia_file.specs.Places.{left_of, sealed_in};
+ghost use Rattle.dia_file.specs.Tallies.{Frees};
 
 use crate::place::{After, Held};
 use crate::sealed::Sealed;
@@ -25,6 +26,7 @@ pub(crate) fn leave<R: Wait, D: Disk>(
     ensures len { (deque_len ring.new ≤ deque_len ring.old + 1) × (deque_len ring.old ≤ deque_len ring.new) }
     ensures capacity { deque_capacity ring.new ≡ deque_capacity ring.old }
     ensures permits { hand.new.permits ≡ hand.old.permits + 1 }
+    ensures gone { Frees (deque_len ring.old + 1) (deque_len ring.new) hand.old.notes hand.new.notes }
     ensures follows { Follows hand.old hand.new }
 {
     let Held { pinned, ends, len } = held;

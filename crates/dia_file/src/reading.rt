@@ -32,7 +32,7 @@ pub(crate) fn fill(shown: &Option<Held>, buffer: &mut Vec<u8>, kept: usize)
 }
 
 /// The row in the block that is pinned, which the place goes on behind.
-#[inline]
+#[inline(always)]
 pub(crate) fn give_short<'r>(
     kinds: &Kinds,
     shown: &'r Option<Held>,
@@ -60,6 +60,7 @@ pub(crate) fn give_short<'r>(
 }
 
 /// The row at the front of the buffer, of which so many bytes stood in earlier blocks; the place goes on behind it.
+#[inline(always)]
 pub(crate) fn give_long<'r>(
     kinds: &Kinds,
     buffer: &'r Vec<u8>,
@@ -90,7 +91,7 @@ pub(crate) fn give_long<'r>(
 }
 
 /// The row at the place, which goes on behind it.
-#[inline]
+#[inline(always)]
 pub(crate) fn give<'r>(
     kinds: &Kinds,
     place: &'r Place,

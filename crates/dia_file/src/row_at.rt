@@ -1,7 +1,7 @@
 //! One row of a file, by its place.
 ghost use Rattle.std.specs.Prelude.{◌≡◌, ◌+◌, ◌<◌, ◌≤◌, ◌^◌, ◌++◌, true, List, Some, drop, length, slice_get, IfErr, OnOk, OnErr};
 ghost use Rattle.row_defs.specs.Rows.{kinds_of};
-ghost use Rattle.block_pool.specs.Handles.{Follows};
+ghost use Rattle.block_pool.specs.Handles.{Follows, SameTally};
 ghost use Rattle.dia_file.specs.Refusals.{RefusesRead, RefusesWithin};
 ghost use Rattle.dia_file.specs.Cuts.{ends_of, Sought};
 ghost use Rattle.dia_file.specs.Files.{IsFileOf};
@@ -54,6 +54,7 @@ fn copy_nth<R: Wait, D: Disk>(
     ensures file { reader.new.file ≡ reader.old.file }
     ensures permits { hand.new.permits + reader.new.pinned ≡ hand.old.permits + reader.old.pinned }
     ensures refused { IfErr result (λ e. RefusesRead hand.old hand.new e) }
+    ensures tally { SameTally hand.old.notes hand.new.notes }
     ensures follows { Follows hand.old hand.new }
 {
     for _row in 0..n {
@@ -123,6 +124,7 @@ impl File {
         ensures file { self.new ≡ self.old }
         ensures permits { hand.new.permits ≡ hand.old.permits }
         ensures refused { IfErr result (λ e. RefusesWithin hand.old hand.new e) }
+        ensures tally { SameTally hand.old.notes hand.new.notes }
         ensures follows { Follows hand.old hand.new }
     {
         let none = File {

@@ -1,7 +1,9 @@
 //! Bytes that are put into blocks, one after the other.
 ghost use Rattle.std.specs.Prelude.{◌≡◌, ◌+◌, ◌<◌, ◌≤◌, ◌++◌, ◌∷◌, [], ℕ, List, length, take, drop, None, IfOk, OnOk, OnErr, IfErr, IfSome};
-ghost use Rattle.block_pool.specs.Handles.{Follows, RefusesFrame};
+ghost use Rattle.std.specs.VecDeque.{deque_len};
+ghost use Rattle.block_pool.specs.Handles.{Follows, RefusesFrame, SameTally};
 ghost use Rattle.dia_file.specs.Frames.{frame_bytes, frames, IsFrameIn, sealed_of, Spread, IsPut, IsTorn, AreBlocksOf};
+ghost use Rattle.dia_file.specs.Tallies.{Frees, Makes};
 
 use block_pool::{BlockRef, Frame, FrameErr, Hand};
 use dia_edge::{Disk, NoMemory};
@@ -30,6 +32,7 @@ pub(crate) fn seal_frame<R: Wait, D: Disk>(
     ensures kept { OnErr result (sealed.new.items ≡ sealed.old.items) }
     ensures frame_kept { OnErr result (frame.new ≡ frame.old) }
     ensures permits { hand.new.permits + frames frame.new ≡ hand.old.permits + frames frame.old }
+    ensures made { Makes (deque_len sealed.old) (deque_len sealed.new) hand.old.notes hand.new.notes }
     ensures follows { Follows hand.old hand.new }
 {
     let Some(written) = frame.take() else {
@@ -69,6 +72,7 @@ fn put_prefix<'b, R: Wait, D: Disk>(
     ensures none { OnErr result (frame.new ≡ None) }
     ensures permits { hand.new.permits + frames frame.new ≡ hand.old.permits }
     ensures refused { IfErr result (λ e. RefusesFrame hand.old.notes hand.new.notes e) }
+    ensures tally { SameTally hand.old.notes hand.new.notes }
     ensures follows { Follows hand.old hand.new }
 {
     let mut next = hand.frame(rt)?;
@@ -96,21 +100,16 @@ pub(crate) fn put_over<R: Wait, D: Disk>(
     ensures own { IsFrameIn hand.old.pool frame.new }
     ensures permits { hand.new.permits + frames frame.new ≡ hand.old.permits }
     ensures refused { IfErr result (λ e. RefusesFrame hand.old.notes hand.new.notes e) }
+    ensures made { Makes (deque_len sealed.old) (deque_len sealed.new) hand.old.notes hand.new.notes }
     ensures follows { Follows hand.old hand.new }
 {
-    let mut rest = match put_prefix(rt, hand, frame, bytes) {
-        Ok(more) => more,
-        Err(refusal) => return Err(refusal),
-    };
+    let mut rest = put_prefix(rt, hand, frame, bytes)?;
     while !rest.is_empty() {
         match seal_frame(rt, hand, sealed, frame, 0) {
             Ok(()) => {}
             Err(NoMemory) => return Err(FrameErr::NoMemory),
         }
-        match put_prefix(rt, hand, frame, rest) {
-            Ok(more) => rest = more,
-            Err(refusal) => return Err(refusal),
-        }
+        rest = put_prefix(rt, hand, frame, rest)?;
     }
     Ok(())
 }
@@ -134,6 +133,7 @@ pub(crate) fn put_row<R: Wait, D: Disk>(
     ensures own { IsFrameIn hand.old.pool frame.new }
     ensures permits { hand.new.permits + frames frame.new ≡ hand.old.permits + frames frame.old }
     ensures refused { IfErr result (λ e. RefusesFrame hand.old.notes hand.new.notes e) }
+    ensures made { Makes (deque_len sealed.old) (deque_len sealed.new) hand.old.notes hand.new.notes }
     ensures follows { Follows hand.old hand.new }
 {
     match frame {
@@ -166,6 +166,7 @@ fn put_anew<R: Wait, D: Disk>(
     ensures own { IsFrameIn hand.old.pool frame.new }
     ensures permits { hand.new.permits + frames frame.new ≡ hand.old.permits + frames frame.old }
     ensures refused { IfErr result (λ e. RefusesFrame hand.old.notes hand.new.notes e) }
+    ensures made { Makes (deque_len sealed.old) (deque_len sealed.new) hand.old.notes hand.new.notes }
     ensures follows { Follows hand.old hand.new }
 {
     match seal_frame(rt, hand, sealed, frame, *ends) {
@@ -184,6 +185,7 @@ pub(crate) fn free_all<R: Wait, D: Disk>(
 )
     requires own { AreBlocksOf hand.old.pool sealed.old.items }
     ensures permits { hand.new.permits ≡ hand.old.permits }
+    ensures gone { Frees (deque_len sealed.old) 0 hand.old.notes hand.new.notes }
     ensures follows { Follows hand.old hand.new }
 {
     while let Some(front) = sealed.pop_front() {

@@ -51,6 +51,9 @@ fn make_rooms(alloc: Global, count: usize, blocks: usize) -> Result<Vec<VecDeque
 }
 
 impl File {
+    ghost use Rattle.block_pool.specs.Handles.{PoolName};
+    ghost use Rattle.dia_file.specs.Files.{IsFileOf};
+
     /// Cuts a file off at the start, of so many bytes and the rest of the rows that end in its last block.
     fn cut_off(&mut self, room: VecDeque<Sealed>, want: u64) -> File
         requires empty { (room.items ≡ []) × (deque_len room ≡ 0) }
@@ -75,7 +78,7 @@ impl File {
 
     /// Cuts the file into `n` files, whose rows and blocks, one after the other, are its own. Cuts fall behind blocks in
     /// which a row ends, and about as many bytes go into each file: at least its share of what is left, and no more than that,
-    /// the longest row and a block.
+    /// the longest row and a block. They are of the pool that it is of.
     ///
     /// Without memory the file comes back as it was.
     pub fn split_blocks(self, n: u32) -> Result<Vec<File>, (File, NoMemory)>
@@ -84,6 +87,7 @@ impl File {
         ensures rows { IfOk result (λ files. rows_of_files files.items ≡ self.rows) }
         ensures blocks { IfOk result (λ files. blocks_of_files files.items ≡ self.blocks) }
         ensures kinds { IfOk result (λ files. All (λ file. file.kinds ≡ self.kinds) files.items) }
+        ensures own { IfOk result (λ files. (pool : PoolName) → IsFileOf pool self → All (λ file. IsFileOf pool file) files.items) }
         ensures even { IfOk result (λ files. AreEven files.items) }
         ensures returned { IfErr result (λ refused. refused.0 ≡ self) }
     {

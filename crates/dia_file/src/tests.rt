@@ -2,6 +2,8 @@
 ghost use Rattle.std.specs.Prelude.{◌≡◌, ◌+◌, ◌/◌, ◌^◌, ◌<◌, ◌≤◌, ◌∷◌, [], false, IfOk, OnOk, length, vec_capacity};
 ghost use Rattle.row_defs.specs.Rows.{kinds_of};
 ghost use Rattle.row_defs.specs.declared.kind.Kind.TheVariants.{Int, Text};
+ghost use Rattle.dia_item.specs.KindList.{kind_list};
+ghost use Rattle.dia_item.specs.Lent.{row_in_ref};
 ghost use Rattle.block_pool.specs.Handles.{AreOfPool};
 ghost use Rattle.block_pool.specs.Workers.{IsReady, new_pool};
 ghost use Rattle.dia_file.specs.Files.{IsFileOf};
@@ -10,7 +12,7 @@ ghost use Rattle.dia_file.specs.Writers.{IsWriterOf, frames_of};
 use crate::{ConsumeReader, File, FileWriter, KeepReader, PushErr};
 use block_pool::{Hand, OpenErr, Pass, Permits, PinErr, Pool};
 use dia_edge::{Disk, MemDisk};
-use dia_item::{Field, Kind, Kinds, RowBuf};
+use dia_item::{Field, Kind, Kinds, RowBuf, RowRef};
 use std::alloc::Global;
 use std::sync::Wait;
 use std::test::Fail;
@@ -48,6 +50,14 @@ fn end<R: Wait>(rt: &R, pool: Pool<MemDisk>, pass: Pass, passes: Vec<Pass>) -> M
     pool.finish(rt, passes)
 }
 
+/// A reader's refusal in the words of a writer's.
+fn refused(refusal: PinErr) -> PushErr {
+    match refusal {
+        PinErr::Disk { count } => PushErr::Disk { count },
+        PinErr::Damaged | PinErr::NoMemory => PushErr::NoMemory,
+    }
+}
+
 /// Pushes the numbers below this one.
 fn fill<R: Wait, D: Disk>(
     rt: &R,
@@ -62,7 +72,6 @@ fn fill<R: Wait, D: Disk>(
     requires permit { 0 < hand.old.permits + frames_of writer.old }
     ensures unbroken { OnOk result (writer.new.is_broken ≡ false) }
     ensures kinds { OnOk result (writer.new.kinds ≡ Int ∷ []) }
-    ensures rows { OnOk result (length writer.new.rows ≡ length writer.old.rows + count) }
     ensures own { OnOk result (IsWriterOf hand.new.pool writer.new) }
     ensures pool { hand.new.pool ≡ hand.old.pool }
     ensures permits { OnOk result (hand.new.permits + frames_of writer.new ≡ hand.old.permits + frames_of writer.old) }
@@ -77,33 +86,35 @@ fn fill<R: Wait, D: Disk>(
     Ok(())
 }
 
-/// The sum of the numbers that are left.
-fn sum<R: Wait, D: Disk>(
+/// How many of the numbers that are left are their own places, and how often the disk failed on the way.
+fn read_in_order<R: Wait, D: Disk>(
     rt: &R,
     hand: &mut Hand<'_, D>,
     reader: &mut KeepReader,
-) -> Result<u64, PinErr>
+) -> Result<[u64; 2], PinErr>
     requires own { IsFileOf hand.old.pool reader.old.file }
     requires permit { 0 < hand.old.permits + reader.old.pinned }
     ensures pool { hand.new.pool ≡ hand.old.pool }
     ensures file { reader.new.file ≡ reader.old.file }
     ensures permits { hand.new.permits + reader.new.pinned ≡ hand.old.permits + reader.old.pinned }
 {
-    let mut sum = 0u64;
+    let mut in_order = 0u64;
+    let mut faults = 0u64;
     for _ in 0..u64::MAX {
         match reader.next(rt, hand) {
             Ok(Some(row)) => {
                 if row.columns() > 0 {
-                    if let Field::Int(n) = row.field(0) {
-                        sum = sum.wrapping_add(n);
+                    if row.field(0) == Field::Int(in_order) {
+                        in_order = in_order.wrapping_add(1);
                     }
                 }
             }
-            Ok(None) => return Ok(sum),
+            Ok(None) => return Ok([in_order, faults]),
+            Err(PinErr::Disk { .. }) => faults = faults.wrapping_add(1),
             Err(refusal) => return Err(refusal),
         }
     }
-    Ok(sum)
+    Err(PinErr::Damaged)
 }
 
 /// The number in the first column.
@@ -116,111 +127,94 @@ fn first_number(buffer: &RowBuf) -> u64
     }
 }
 
-/// The parts of a file, once they were weighed.
+/// How many rows the four parts of a file have, once they were weighed.
 fn split_and_weigh<R: Wait, D: Disk>(
     rt: &R,
     hand: &mut Hand<'_, D>,
     file: File,
-    n: u32,
-) -> Option<Vec<File>>
+) -> Result<u64, PushErr>
     requires own { IsFileOf hand.old.pool file }
-    requires some { 1 ≤ n }
     ensures pool { hand.new.pool ≡ hand.old.pool }
 {
-    let Ok(files) = file.split_blocks(n) else {
-        return None;
+    let Ok(files) = file.split_blocks(4) else {
+        return Err(PushErr::NoMemory);
     };
-    File::weigh(files, rt, hand).ok()
+    let Ok(files) = File::weigh(files, rt, hand) else {
+        return Err(PushErr::NoMemory);
+    };
+    let mut rows = 0u64;
+    for file in files {
+        rows = rows.wrapping_add(file.rows());
+    }
+    Ok(rows)
 }
 
-/// What a file of the numbers below `count` answers, if nothing refuses: its rows, bytes and blocks, its last row, the sum
-/// of its rows, and how many rows its four parts have, once they were weighed.
-fn read_back<R: Wait, D: Disk>(
+/// What is found of a file of the numbers below `count`, pushed to a writer of at most `limit`: its rows, bytes and blocks;
+/// how many rows are read in order, and how often the disk failed at that; the last row's number; and how many rows its parts
+/// have.
+fn try_numbers<R: Wait, D: Disk>(
     rt: &R,
     alloc: Global,
     hand: &mut Hand<'_, D>,
     count: u64,
-) -> Option<[u64; 6]>
+    limit: u64,
+) -> Result<[u64; 7], PushErr>
     requires permit { 0 < hand.old.permits }
-    requires some { 0 < count }
     ensures pool { hand.new.pool ≡ hand.old.pool }
 {
+    if limit > 1 << 40 {
+        return Err(PushErr::TooManyRows { limit });
+    }
     let Ok(mut buffer) = RowBuf::new(alloc) else {
-        return None;
+        return Err(PushErr::NoMemory);
     };
-    let mut writer = FileWriter::new(alloc, Kinds::one(Kind::Int), 1 << 40);
-    if fill(rt, hand, &mut writer, &mut buffer, count).is_err() {
-        return None;
-    }
-    let Ok(mut file) = writer.finish(rt, hand) else {
-        return None;
+    let mut writer = FileWriter::new(alloc, Kinds::one(Kind::Int), limit);
+    fill(rt, hand, &mut writer, &mut buffer, count)?;
+    let Ok(file) = writer.finish(rt, hand) else {
+        return Err(PushErr::NoMemory);
     };
-    if file.row_at(rt, hand, count - 1, &mut buffer).is_err() {
-        return None;
-    }
-    let last = first_number(&buffer);
     let (rows, bytes, blocks) = (file.rows(), file.bytes(), file.blocks());
     let mut reader = file.keep();
-    let Ok(sum) = sum(rt, hand, &mut reader) else {
-        return None;
+    let read = read_in_order(rt, hand, &mut reader);
+    let mut file = reader.end(rt, hand);
+    let [in_order, faults] = match read {
+        Ok(read) => read,
+        Err(refusal) => return Err(refused(refusal)),
     };
-    let file = reader.end(rt, hand);
-    let files = split_and_weigh(rt, hand, file, 4)?;
-    let mut parts = 0u64;
-    for file in files {
-        parts = parts.wrapping_add(file.rows());
+    let mut last = 0;
+    if rows > 0 {
+        match file.row_at(rt, hand, rows - 1, &mut buffer) {
+            Ok(()) => last = first_number(&buffer),
+            Err(refusal) => return Err(refused(refusal)),
+        }
     }
-    Some([rows, bytes, blocks, last, sum, parts])
+    let parts = split_and_weigh(rt, hand, file)?;
+    Ok([rows, bytes, blocks, in_order, faults, last, parts])
 }
 
-#[test]
-fn ten_thousand_numbers_stand_in_three_blocks(rt: HostRuntime) -> Result<(), Fail> {
-    let alloc = rt.alloc();
-    let passes = Vec::with_capacity(alloc, 1)?;
-    let (pool, (pass, permits)) = match open_one(alloc, 425_984, 32_768, Vec::new(alloc)) {
-        Ok(opened) => opened,
-        Err(refusal) => return Err(refusal.into()),
-    };
-    let mut hand = Hand::new(&pool, pass, permits);
-    let found = read_back(&rt, alloc, &mut hand, 10_000);
-    let (pass, _) = hand.end();
-    let _disk = end(&rt, pool, pass, passes);
-    assert_eq!(rt; found, Some([10_000, 80_000, 3, 9_999, 49_995_000, 10_000]));
-    Ok(())
+/// A row of six columns of the same text.
+fn set_six(buffer: &mut RowBuf, text: &[u8])
+    requires { length text.now ≤ 65536 }
+    ensures { kinds_of buffer.new ≡ Text ∷ Text ∷ Text ∷ Text ∷ Text ∷ Text ∷ [] }
+{
+    buffer.set_text(text);
+    buffer.push_text(text);
+    buffer.push_text(text);
+    buffer.push_text(text);
+    buffer.push_text(text);
+    buffer.push_text(text);
 }
 
-/// Twice the pool goes over the disk and comes back.
-#[test]
-fn a_file_of_twice_the_pool_is_read_back(rt: HostRuntime) -> Result<(), Fail> {
-    let alloc = rt.alloc();
-    let passes = Vec::with_capacity(alloc, 1)?;
-    let (pool, (pass, permits)) = match open_one(alloc, 53_248, 4_096, Vec::new(alloc)) {
-        Ok(opened) => opened,
-        Err(refusal) => return Err(refusal.into()),
-    };
-    let mut hand = Hand::new(&pool, pass, permits);
-    let found = read_back(&rt, alloc, &mut hand, 13_312);
-    let (pass, _) = hand.end();
-    let disk = end(&rt, pool, pass, passes);
-    assert_eq!(rt;
-        found,
-        Some([13_312, 106_496, 26, 13_311, 88_598_016, 13_312])
-    );
-    assert!(rt; disk.write_count() > 0);
-    Ok(())
-}
-
-/// Pushes two texts in turn, so many times.
-fn fill_texts<R: Wait, D: Disk>(
+/// Pushes two rows in turn, so many times.
+fn fill_in_turn<R: Wait, D: Disk>(
     rt: &R,
     hand: &mut Hand<'_, D>,
     writer: &mut FileWriter,
-    buffer: &mut RowBuf,
-    texts: (&[u8], &[u8]),
+    first: RowRef<'_>,
+    second: RowRef<'_>,
     count: u64,
 ) -> Result<(), PushErr>
-    requires kinds { writer.old.kinds ≡ Text ∷ [] }
-    requires short { (length texts.0.now ≤ 65536) × (length texts.1.now ≤ 65536) }
+    requires kinds { (kinds_of (row_in_ref first) ≡ writer.old.kinds) × (kinds_of (row_in_ref second) ≡ writer.old.kinds) }
     requires unbroken { writer.old.is_broken ≡ false }
     requires own { IsWriterOf hand.old.pool writer.old }
     requires permit { 0 < hand.old.permits + frames_of writer.old }
@@ -229,10 +223,12 @@ fn fill_texts<R: Wait, D: Disk>(
     ensures pool { hand.new.pool ≡ hand.old.pool }
     ensures permits { OnOk result (hand.new.permits + frames_of writer.new ≡ hand.old.permits + frames_of writer.old) }
 {
-    let (long, short) = texts;
-    for n in 0..count {
-        buffer.set_text(if n % 2 == 0 { long } else { short });
-        match writer.push(rt, hand, buffer.row()) {
+    for _pair in 0..count {
+        match writer.push(rt, hand, first) {
+            Ok(()) => {}
+            Err(refusal) => return Err(refusal),
+        }
+        match writer.push(rt, hand, second) {
             Ok(()) => {}
             Err(refusal) => return Err(refusal),
         }
@@ -240,268 +236,201 @@ fn fill_texts<R: Wait, D: Disk>(
     Ok(())
 }
 
-/// The sum of the lengths of the texts that are left.
-fn consume_lengths<R: Wait, D: Disk>(
+/// How many of the rows that are left have the bytes of two rows in turn.
+fn consume_in_turn<R: Wait, D: Disk>(
     rt: &R,
     hand: &mut Hand<'_, D>,
     reader: &mut ConsumeReader,
-) -> Result<usize, PinErr>
+    first: &[u8],
+    second: &[u8],
+) -> Result<u64, PinErr>
     requires own { AreOfPool hand.old.pool reader.old.blocks }
     requires permit { 0 < hand.old.permits + reader.old.pinned }
     ensures pool { hand.new.pool ≡ hand.old.pool }
 {
-    let mut sum = 0usize;
-    for _ in 0..u64::MAX {
+    let mut same = 0u64;
+    for n in 0..u64::MAX {
         match reader.next(rt, hand) {
             Ok(Some(row)) => {
-                if row.columns() > 0 {
-                    if let Field::Text(t) = row.field(0) {
-                        sum = sum.wrapping_add(t.len());
-                    }
+                if row.bytes() == (if n % 2 == 0 { first } else { second }) {
+                    same = same.wrapping_add(1);
                 }
             }
-            Ok(None) => return Ok(sum),
+            Ok(None) => return Ok(same),
             Err(refusal) => return Err(refusal),
         }
     }
-    Ok(sum)
+    Err(PinErr::Damaged)
 }
 
-/// How long the texts of a consumed file are that has a long text and a short one in turn.
-fn read_texts<R: Wait, D: Disk>(
+/// What is found of a file of two rows in turn, each so many times: its rows and bytes, and how many rows are consumed right.
+fn try_in_turn<R: Wait, D: Disk>(
     rt: &R,
     alloc: Global,
     hand: &mut Hand<'_, D>,
-    texts: (&[u8], &[u8]),
-) -> Option<usize>
-    requires short { (length texts.0.now ≤ 65536) × (length texts.1.now ≤ 65536) }
+    kinds: Kinds,
+    first: RowRef<'_>,
+    second: RowRef<'_>,
+    count: u64,
+) -> Result<[u64; 3], PushErr>
+    requires kinds { (kinds_of (row_in_ref first) ≡ kind_list kinds) × (kinds_of (row_in_ref second) ≡ kind_list kinds) }
     requires permit { 0 < hand.old.permits }
     ensures pool { hand.new.pool ≡ hand.old.pool }
 {
-    let Ok(mut buffer) = RowBuf::new(alloc) else {
-        return None;
-    };
-    let mut writer = FileWriter::new(alloc, Kinds::one(Kind::Text), 1 << 40);
-    if fill_texts(rt, hand, &mut writer, &mut buffer, texts, 40).is_err() {
-        return None;
-    }
+    let mut writer = FileWriter::new(alloc, kinds, 1 << 40);
+    fill_in_turn(rt, hand, &mut writer, first, second, count)?;
     let Ok(file) = writer.finish(rt, hand) else {
-        return None;
+        return Err(PushErr::NoMemory);
     };
+    let (rows, bytes) = (file.rows(), file.bytes());
     let mut reader = file.consume();
-    consume_lengths(rt, hand, &mut reader).ok()
+    match consume_in_turn(rt, hand, &mut reader, first.bytes(), second.bytes()) {
+        Ok(same) => Ok([rows, bytes, same]),
+        Err(refusal) => Err(refused(refusal)),
+    }
 }
 
 static LONG: [u8; 60_000] = [97; 60_000];
 
-/// Rows that span fifteen blocks, and rows of one byte behind them.
-#[test]
-fn rows_that_span_blocks_are_read_back(rt: HostRuntime) -> Result<(), Fail> {
-    let alloc = rt.alloc();
-    let passes = Vec::with_capacity(alloc, 1)?;
-    let (pool, (pass, permits)) = match open_one(alloc, 53_248, 4_096, Vec::new(alloc)) {
-        Ok(opened) => opened,
-        Err(refusal) => return Err(refusal.into()),
-    };
-    let mut hand = Hand::new(&pool, pass, permits);
-    let found = read_texts(&rt, alloc, &mut hand, (&LONG, b"b"));
-    let (pass, _) = hand.end();
-    let _disk = end(&rt, pool, pass, passes);
-    assert_eq!(rt; found, Some(20 * 60_001));
-    Ok(())
-}
+static LONGEST: [u8; 65_536] = [98; 65_536];
 
-/// The number in the first column of a row.
-fn number_at<R: Wait, D: Disk>(
-    rt: &R,
-    hand: &mut Hand<'_, D>,
-    file: &mut File,
-    i: u64,
-    buffer: &mut RowBuf,
-) -> Option<u64>
-    requires own { IsFileOf hand.old.pool file.old }
-    requires kinds { file.old.kinds ≡ Int ∷ [] }
-    requires within { i < length file.old.rows }
-    requires permit { 0 < hand.old.permits }
-    ensures pool { hand.new.pool ≡ hand.old.pool }
-    ensures permits { hand.new.permits ≡ hand.old.permits }
-    ensures file { file.new ≡ file.old }
-{
-    match file.row_at(rt, hand, i, buffer) {
-        Ok(()) => Some(first_number(buffer)),
-        Err(_) => None,
-    }
-}
-
-/// What a fourth push to a writer of at most three rows answers, and the rows of its file, if nothing else refuses.
-fn push_four<R: Wait, D: Disk>(
+/// Long rows and short ones in turn, of one column and of six: how many rows and bytes there are, and how many rows are read
+/// right.
+fn try_texts<R: Wait, D: Disk>(
     rt: &R,
     alloc: Global,
     hand: &mut Hand<'_, D>,
-) -> Option<(Result<(), PushErr>, [u64; 3])>
+) -> Result<[u64; 7], PushErr>
     requires permit { 0 < hand.old.permits }
     ensures pool { hand.new.pool ≡ hand.old.pool }
 {
-    let mut buffer = RowBuf::new(alloc).ok()?;
-    let mut writer = FileWriter::new(alloc, Kinds::one(Kind::Int), 3);
-    if fill(rt, hand, &mut writer, &mut buffer, 3).is_err() {
-        return None;
-    }
-    buffer.set_int(3);
-    let fourth = writer.push(rt, hand, buffer.row());
-    if writer.broken() {
-        return None;
-    }
-    let Ok(mut file) = writer.finish(rt, hand) else {
-        return None;
+    let (Ok(mut long), Ok(mut short)) = (RowBuf::new(alloc), RowBuf::new(alloc)) else {
+        return Err(PushErr::NoMemory);
     };
-    if file.rows() != 3 {
-        return None;
+    long.set_text(&LONG);
+    short.set_text(b"b");
+    let [rows, bytes, same] = try_in_turn(
+        rt,
+        alloc,
+        hand,
+        Kinds::one(Kind::Text),
+        long.row(),
+        short.row(),
+        20,
+    )?;
+    if hand.permits() == 0 {
+        return Err(PushErr::NoMemory);
     }
-    let first = number_at(rt, hand, &mut file, 0, &mut buffer)?;
-    let second = number_at(rt, hand, &mut file, 1, &mut buffer)?;
-    let third = number_at(rt, hand, &mut file, 2, &mut buffer)?;
-    Some((fourth, [first, second, third]))
+    set_six(&mut long, &LONGEST);
+    set_six(&mut short, b"");
+    let [wide, wide_bytes, wide_same] = try_in_turn(
+        rt,
+        alloc,
+        hand,
+        Kinds::of(&[Kind::Text; 6]),
+        long.row(),
+        short.row(),
+        3,
+    )?;
+    Ok([rows, bytes, same, wide, wide_bytes, wide_same, 0])
 }
 
-#[test]
-fn a_writer_of_three_rows_refuses_a_fourth(rt: HostRuntime) -> Result<(), Fail> {
-    let alloc = rt.alloc();
-    let passes = Vec::with_capacity(alloc, 1)?;
-    let (pool, (pass, permits)) = match open_one(alloc, 53_248, 4_096, Vec::new(alloc)) {
-        Ok(opened) => opened,
-        Err(refusal) => return Err(refusal.into()),
-    };
-    let mut hand = Hand::new(&pool, pass, permits);
-    let found = push_four(&rt, alloc, &mut hand);
-    let (pass, _) = hand.end();
-    let _disk = end(&rt, pool, pass, passes);
-    assert_eq!(rt;
-        found,
-        Some((Err(PushErr::TooManyRows { limit: 3 }), [0, 1, 2]))
-    );
-    Ok(())
+/// What is tried in a pool.
+#[derive(Clone, Copy)]
+enum Case {
+    /// So many numbers go to a writer of at most so many rows.
+    Numbers(u64, u64),
+    /// Long texts and short ones.
+    Texts,
 }
 
-/// How many parts an empty file is split into, and their rows and blocks, once they were read through and weighed.
-fn read_empty<R: Wait, D: Disk>(rt: &R, alloc: Global, hand: &mut Hand<'_, D>) -> Option<[u64; 4]>
-    requires permit { 0 < hand.old.permits }
-    ensures pool { hand.new.pool ≡ hand.old.pool }
-{
-    let writer = FileWriter::new(alloc, Kinds::one(Kind::Int), 3);
-    let Ok(file) = writer.finish(rt, hand) else {
-        return None;
-    };
-    let mut reader = file.keep();
-    let Ok(sum) = sum(rt, hand, &mut reader) else {
-        return None;
-    };
-    let file = reader.end(rt, hand);
-    let files = split_and_weigh(rt, hand, file, 3)?;
-    let parts = files.len() as u64;
-    let mut rows = 0u64;
-    let mut blocks = 0u64;
-    for file in files {
-        rows = rows.wrapping_add(file.rows());
-        blocks = blocks.wrapping_add(file.blocks());
-    }
-    Some([parts, rows, blocks, sum])
-}
-
-#[test]
-fn an_empty_file_is_read_split_and_weighed(rt: HostRuntime) -> Result<(), Fail> {
-    let alloc = rt.alloc();
-    let passes = Vec::with_capacity(alloc, 1)?;
-    let (pool, (pass, permits)) = match open_one(alloc, 53_248, 4_096, Vec::new(alloc)) {
-        Ok(opened) => opened,
-        Err(refusal) => return Err(refusal.into()),
-    };
-    let mut hand = Hand::new(&pool, pass, permits);
-    let found = read_empty(&rt, alloc, &mut hand);
-    let (pass, _) = hand.end();
-    let _disk = end(&rt, pool, pass, passes);
-    assert_eq!(rt; found, Some([3, 0, 0, 0]));
-    Ok(())
-}
-
-/// The sum of the numbers that are left, and how often the disk failed; None after another refusal.
-fn sum_over_faults<R: Wait, D: Disk>(
-    rt: &R,
-    hand: &mut Hand<'_, D>,
-    reader: &mut KeepReader,
-) -> Option<(u64, u64)>
-    requires own { IsFileOf hand.old.pool reader.old.file }
-    requires permit { 0 < hand.old.permits + reader.old.pinned }
-    ensures pool { hand.new.pool ≡ hand.old.pool }
-    ensures file { reader.new.file ≡ reader.old.file }
-{
-    let mut sum = 0u64;
-    let mut faults = 0u64;
-    for _ in 0..u64::MAX {
-        match reader.next(rt, hand) {
-            Ok(Some(row)) => {
-                if row.columns() > 0 {
-                    if let Field::Int(n) = row.field(0) {
-                        sum = sum.wrapping_add(n);
-                    }
-                }
-            }
-            Ok(None) => return Some((sum, faults)),
-            Err(PinErr::Disk { .. }) => faults = faults.wrapping_add(1),
-            Err(_) => return None,
-        }
-    }
-    None
-}
-
-/// What is read of a file of the numbers below `count`, and how often the disk failed. A push that it refuses is the end.
-fn read_over_faults<R: Wait, D: Disk>(
+/// What is found in a pool of thirteen frames, and how often its disk was written.
+fn try_in_pool<R: Wait>(
     rt: &R,
     alloc: Global,
-    hand: &mut Hand<'_, D>,
-    count: u64,
-) -> Option<(u64, u64)>
-    requires permit { 0 < hand.old.permits }
-    ensures pool { hand.new.pool ≡ hand.old.pool }
-{
-    let mut buffer = RowBuf::new(alloc).ok()?;
-    let mut writer = FileWriter::new(alloc, Kinds::one(Kind::Int), 1 << 40);
-    match fill(rt, hand, &mut writer, &mut buffer, count) {
-        Ok(()) => {}
-        Err(PushErr::Disk { .. }) => return Some((0, 1)),
-        Err(_) => return None,
+    block: u32,
+    fail: Vec<u64>,
+    case: Case,
+) -> Result<(Result<[u64; 7], PushErr>, u64), Fail> {
+    if !(4_096..=32_768).contains(&block) {
+        return Err("no such block".into());
     }
-    let Ok(file) = writer.finish(rt, hand) else {
-        return None;
-    };
-    let mut reader = file.keep();
-    sum_over_faults(rt, hand, &mut reader)
-}
-
-/// The same in a pool half as large, where one call of the disk fails.
-fn read_with_fault<R: Wait>(rt: &R, alloc: Global, call: u64) -> Result<Option<(u64, u64)>, Fail> {
     let passes = Vec::with_capacity(alloc, 1)?;
-    let mut fail = Vec::new(alloc);
-    fail.push(call)?;
-    let (pool, (pass, permits)) = match open_one(alloc, 53_248, 4_096, fail) {
+    let (pool, (pass, permits)) = match open_one(alloc, 13 * u64::from(block), block, fail) {
         Ok(opened) => opened,
         Err(refusal) => return Err(refusal.into()),
     };
     let mut hand = Hand::new(&pool, pass, permits);
-    let found = read_over_faults(rt, alloc, &mut hand, 13_312);
+    let found = match case {
+        Case::Numbers(count, limit) => try_numbers(rt, alloc, &mut hand, count, limit),
+        Case::Texts => try_texts(rt, alloc, &mut hand),
+    };
     let (pass, _) = hand.end();
-    let _disk = end(rt, pool, pass, passes);
-    Ok(found)
+    let disk = end(rt, pool, pass, passes);
+    Ok((found, disk.write_count()))
+}
+
+/// Thirteen blocks of the greater size hold all of the first file; those of the smaller one hold half of the second.
+#[test]
+fn rows_are_read_back(rt: HostRuntime) -> Result<(), Fail> {
+    let alloc = rt.alloc();
+    let table = [
+        (
+            32_768,
+            Case::Numbers(10_000, 1 << 40),
+            Ok([10_000, 80_000, 3, 10_000, 0, 9_999, 10_000]),
+            false,
+        ),
+        (
+            4_096,
+            Case::Numbers(13_312, 1 << 40),
+            Ok([13_312, 106_496, 26, 13_312, 0, 13_311, 13_312]),
+            true,
+        ),
+        (
+            4_096,
+            Case::Numbers(3, 3),
+            Ok([3, 24, 1, 3, 0, 2, 3]),
+            false,
+        ),
+        (
+            4_096,
+            Case::Numbers(4, 3),
+            Err(PushErr::TooManyRows { limit: 3 }),
+            false,
+        ),
+        (4_096, Case::Numbers(0, 3), Ok([0, 0, 0, 0, 0, 0, 0]), false),
+        (
+            4_096,
+            Case::Texts,
+            Ok([40, 1_200_180, 40, 6, 1_179_792, 6, 0]),
+            true,
+        ),
+    ];
+    for (block, case, wanted, spills) in table {
+        let (found, writes) = try_in_pool(&rt, alloc, block, Vec::new(alloc), case)?;
+        assert_eq!(rt; found, wanted);
+        assert_eq!(rt; writes > 0, spills);
+    }
+    Ok(())
 }
 
 /// Each call of the disk fails in turn: a push is refused, or a row that is then read at the next call.
 #[test]
 fn no_row_is_lost_where_the_disk_fails(rt: HostRuntime) -> Result<(), Fail> {
     let alloc = rt.alloc();
+    let (mut refused, mut reread) = (false, false);
     for call in 1..26u64 {
-        let found = read_with_fault(&rt, alloc, call)?;
-        let refused = found == Some((0, 1));
-        assert!(rt; refused || found == Some((88_598_016, 1)));
+        let mut fail = Vec::new(alloc);
+        fail.push(call)?;
+        let (found, _) = try_in_pool(&rt, alloc, 4_096, fail, Case::Numbers(13_312, 1 << 40))?;
+        if found == Err(PushErr::Disk { count: 1 }) {
+            refused = true;
+        } else {
+            assert_eq!(rt; found, Ok([13_312, 106_496, 26, 13_312, 1, 13_311, 13_312]));
+            reread = true;
+        }
     }
+    assert!(rt; refused && reread);
     Ok(())
 }

@@ -1,7 +1,7 @@
 //! The blocks of many files at one turn: files are taken apart from the last one on, and put together again.
 ghost use Rattle.std.specs.Prelude.{◌≡◌, ◌+◌, ◌≤◌, ◌++◌, [], All, List, IfOk, OnOk, vec_len, length};
 ghost use Rattle.std.specs.VecDeque.{deque_len};
-ghost use Rattle.block_pool.specs.Handles.{AreOfPool, BlockValue, Follows};
+ghost use Rattle.block_pool.specs.Handles.{AreOfPool, BlockValue, Follows, SameTally};
 ghost use Rattle.block_pool.specs.Weighing.{Weighs};
 ghost use Rattle.dia_file.specs.Files.{FileValue, file_value};
 ghost use Rattle.dia_file.specs.Frames.{blocks_of};
@@ -184,6 +184,7 @@ impl File {
         ensures files { IfOk result (λ back. back.items ≡ files.items) }
         ensures weighs { IfOk result (λ _. Weighs hand.old.pool.opening hand.new.notes (bytes_of_files files.items)) }
         ensures permits { hand.new.permits ≡ hand.old.permits }
+        ensures tally { SameTally hand.old.notes hand.new.notes }
         ensures follows { Follows hand.old hand.new }
     {
         let alloc = *files.allocator();

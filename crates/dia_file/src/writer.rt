@@ -4,8 +4,9 @@ ghost use Rattle.row_defs.specs.Limits.{most_rows};
 ghost use Rattle.row_defs.specs.Rows.{kinds_of};
 ghost use Rattle.dia_item.specs.KindList.{kind_list};
 ghost use Rattle.dia_item.specs.Lent.{row_in_ref};
-ghost use Rattle.block_pool.specs.Handles.{Follows, RefusesFrame};
+ghost use Rattle.block_pool.specs.Handles.{Follows, SameTally};
 ghost use Rattle.dia_file.specs.Frames.{frame_bytes, frames, IsFrameIn, sealed_of, Spread};
+ghost use Rattle.dia_file.specs.Tallies.{Frees, Makes};
 ghost use Rattle.dia_file.specs.declared.refusals.PushErr.TheVariants.{TooManyRows};
 
 use crate::file::File;
@@ -60,6 +61,7 @@ impl FileWriter {
         ensures frame { result.frame ≡ None }
         ensures unbroken { result.is_broken ≡ false }
     {
+        // That there are some kinds, and no more than a row may have, is said of their list alone.
         let _list = kinds.list();
         FileWriter {
             kinds,
@@ -105,6 +107,7 @@ impl FileWriter {
         ensures limit { self.new.limit ≡ self.old.limit }
         ensures own { IsWriterOf hand.new.pool self.new }
         ensures permits { hand.new.permits + frames_of self.new ≡ hand.old.permits + frames_of self.old }
+        ensures made { Makes (length self.old.blocks) (length self.new.blocks) hand.old.notes hand.new.notes }
         ensures follows { Follows hand.old hand.new }
     {
         if self.rows == self.limit {
@@ -146,6 +149,8 @@ impl FileWriter {
         ensures returned { IfErr result (λ e. e.0 ≡ self) }
         ensures permits { OnOk result (hand.new.permits ≡ hand.old.permits + frames_of self) }
         ensures kept { OnErr result (hand.new.permits ≡ hand.old.permits) }
+        ensures made { IfOk result (λ f. Makes (length self.blocks) (length f.blocks) hand.old.notes hand.new.notes) }
+        ensures same { OnErr result (SameTally hand.old.notes hand.new.notes) }
         ensures follows { Follows hand.old hand.new }
     {
         let FileWriter {
@@ -187,6 +192,7 @@ impl FileWriter {
     pub fn cancel<R: Wait, D: Disk>(self, rt: &R, hand: &mut Hand<'_, D>)
         requires own { IsWriterOf hand.old.pool self }
         ensures permits { hand.new.permits ≡ hand.old.permits + frames_of self }
+        ensures gone { Frees (length self.blocks) 0 hand.old.notes hand.new.notes }
         ensures follows { Follows hand.old hand.new }
     {
         let FileWriter {

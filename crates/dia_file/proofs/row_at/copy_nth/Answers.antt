@@ -6,7 +6,7 @@ use Rattle.dia_file.proofs.row_at.copy_nth.Goals as goal
 pub loop-row-preserved : goal.loop-row-preserved
 loop-row-preserved g c =
     passed_on c.args.hand.now c.loop-row.hand c.next.new.hand c.args.reader.now c.loop-row.reader c.next.follows.lender-at-none c.loop-row._row c.next.result c.in-Ok-Some.field-0 c.in-Ok-Some._row
-    c.loop-row.invariant c.next.follows.holds-at-none c.next.ensures.follows c.in-Ok-Some.is c.in-Ok-Some.field-0-is
+    c.loop-row.invariant c.next.follows.holds-at-none c.next.ensures.tally c.next.ensures.follows c.in-Ok-Some.is c.in-Ok-Some.field-0-is
 
 pub returns-in-Ok-Some-next-clause-row : goal.returns-in-Ok-Some-next-clause-row
 returns-in-Ok-Some-next-clause-row g c = λ tells.

@@ -1,4 +1,4 @@
-use Rattle.std.proofs.Common.{◌≡◌, ◌+◌, ◌∷◌, [], false, length}
+use Rattle.std.proofs.Common.{◌≡◌, ◌+◌, ◌∷◌, [], false}
 use Rattle.row_defs.specs.declared.kind.Kind.TheVariants.{Int}
 use Rattle.dia_file.specs.Writers.{IsWriterOf, frames_of}
 use Rattle.dia_file.proofs.tests.fill.Given as goal
@@ -10,5 +10,4 @@ invariant-loop-n g l = record {
   own : IsWriterOf l.hand.pool l.writer;
   pool : l.hand.pool ≡ l.fn.hand.pool;
   permits : l.hand.permits + frames_of l.writer ≡ l.fn.hand.permits + frames_of l.fn.writer;
-  rows : length l.writer.rows ≡ length l.fn.writer.rows + l.n;
 }

@@ -1,4 +1,4 @@
-use Rattle.std.proofs.Common.{◌≡◌, ◌<◌, ℕ, List, length, map, sym, ap, ◌∙◌, arith}
+use Rattle.std.proofs.Common.{List, length, ap, arith}
 use Rattle.std.proofs.lemmas.List.{length-map}
 use Rattle.row_defs.specs.Rows.{kind_of}
 use Rattle.row_defs.specs.declared.kind.Kind.{Kind}

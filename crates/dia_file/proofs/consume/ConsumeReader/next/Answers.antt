@@ -1,13 +1,13 @@
-use Rattle.std.proofs.Common.{◌≡◌, None, ℕ, ◌<◌, refl, sym, ap, subst, ◌∙◌, arith}
+use Rattle.std.proofs.Common.{◌≡◌, None, Err, true, false, refl, sym, ap, subst, ◌∙◌, arith, rules}
 use Rattle.dia_item.specs.KindList.{kind_list}
 use Rattle.dia_item.specs.Lent.{row_in_ref}
 use Rattle.block_pool.specs.Handles.{PoolName}
 use Rattle.dia_file.specs.declared.place.Place.{Place}
 use Rattle.dia_file.specs.declared.consume.ConsumeReader.TheInside.{Inside}
-use Rattle.dia_file.specs.Places.{at_spot, Tells, GaveRow}
-use Rattle.dia_file.proofs.ReaderLemmas.{placed_at, same_pool, moved_keeps, moved_stays, moved_end, Ready, pins_le, gives_next, misses_next, after_give, on_false, on_true}
+use Rattle.dia_file.specs.Places.{at_spot, Tells}
 use Rattle.dia_file.specs.Readers.{Gives, StaysAt}
 use Rattle.dia_file.specs.Consumers.{ConsumerValue, consumer_value, spot}
+use Rattle.dia_file.proofs.ReaderLemmas.{placed_at, same_pool, moved_keeps, moved_stays, moved_end, readied, gave, missed, misses_next, after_give, pins_le, on_false}
 use Rattle.dia_file.proofs.Draining.{moved_to, own_items, consumer_moved, no_blocks, drains}
 use Rattle.dia_file.proofs.consume.ConsumeReader.next.Goals as goal
 
@@ -31,54 +31,54 @@ invariant_of-self g c =
     let p : Place = c.ready.new.place in
     let own = own_items w c.args.self.now pool c.self.view_is c.requires.own in
     let r = c.ready.ensures in
-    let end = on_false ((p.ahead ≡ 0) × (c.ready.new.here ≡ 0) × (p.shown ≡ None)) c.in-Ok-false.field-0 c.in-Ok-false.field-0-test c.in-Ok-false.ensures.end in
-    consumer_moved w pool p _ _ _ _ _ _ c.self.invariant r.moved
-    (moved_keeps (kind_list w.kinds) (spot w) pool p c.ready.new.at c.ready.new.here c.ready.new.kept c.self.invariant.reading own r.placed r.moved r.still end.1)
+    let reading = moved_keeps (kind_list w.kinds) (spot w) pool p c.ready.new.at c.ready.new.here c.ready.new.kept c.self.invariant.reading own r.placed r.moved r.still c.in_err-ready.ensures.read in
+    consumer_moved w pool p _ _ _ _ _ _ c.self.invariant r.moved reading
 
-pub returns-in-Ok-false : goal.returns-in-Ok-false
-returns-in-Ok-false g c =
+pub returns-in_err-ready : goal.returns-in_err-ready
+returns-in_err-ready g c =
     let w : Inside = c.self.inside in
     let pool : PoolName = c.args.hand.now.pool in
     let p : Place = c.ready.new.place in
+    let own = own_items w c.args.self.now pool c.self.view_is c.requires.own in
     let r = c.ready.ensures in
+    let reading = moved_keeps (kind_list w.kinds) (spot w) pool p c.ready.new.at c.ready.new.here c.ready.new.kept c.self.invariant.reading own r.placed r.moved r.still c.in_err-ready.ensures.read in
     let pinned = ap (λ (x : ConsumerValue). x.pinned) c.self.view_is in
     let permits = r.permits in
-    let end = on_false ((p.ahead ≡ 0) × (c.ready.new.here ≡ 0) × (p.shown ≡ None)) c.in-Ok-false.field-0 c.in-Ok-false.field-0-test c.in-Ok-false.ensures.end in
-    let e = moved_end (kind_list w.kinds) (spot w) pool p c.ready.new.at c.ready.new.here c.ready.new.kept r.moved end.0 end.1 in
-    let own = own_items w c.args.self.now pool c.self.view_is c.requires.own in
-    let reading = moved_keeps (kind_list w.kinds) (spot w) pool p c.ready.new.at c.ready.new.here c.ready.new.kept c.self.invariant.reading own r.placed r.moved r.still end.1 in
-    let drains_so = drains w c.args.self.now c.args.hand.now c.ready.new.hand p c.ready.new.at c.ready.new.here c.ready.new.kept c.ready.new.at c.ready.new.here c.ready.new.kept c.self.view_is c.self.invariant c.requires.own r.moved reading permits r.follows in (
-      (refl, λ _. tt, ((tt, (sym (ap (λ (x : ConsumerValue). x.left) c.self.view_is) ∙ e.0, e.1, no_blocks pool (at_spot p c.ready.new.at c.ready.new.here c.ready.new.kept) r.placed (r.moved.after ∙ c.self.invariant.frees) end.0 end.2)), tt, drains_so)),
-      record { refused = tt; room = omega (arith, permits, pinned, pins_le p.shown); follows = r.follows; after = tt },
-    )
-
-pub invariant_of-self-in-Err-1 : goal.invariant_of-self-in-Err-1
-invariant_of-self-in-Err-1 g c =
-    let w : Inside = c.self.inside in
-    let pool : PoolName = c.args.hand.now.pool in
-    let p : Place = c.ready.new.place in
-    let own = own_items w c.args.self.now pool c.self.view_is c.requires.own in
-    let r = c.ready.ensures in
-    consumer_moved w pool p _ _ _ _ _ _ c.self.invariant r.moved
-    (moved_keeps (kind_list w.kinds) (spot w) pool p c.ready.new.at c.ready.new.here c.ready.new.kept c.self.invariant.reading own r.placed r.moved r.still c.in-Err.ensures.read)
-
-pub returns-in-Err : goal.returns-in-Err
-returns-in-Err g c =
-    let w : Inside = c.self.inside in
-    let pool : PoolName = c.args.hand.now.pool in
-    let p : Place = c.ready.new.place in
-    let own = own_items w c.args.self.now pool c.self.view_is c.requires.own in
-    let r = c.ready.ensures in
-    let pinned = ap (λ (x : ConsumerValue). x.pinned) c.self.view_is in
-    let permits = r.permits in
-    let v : Inside = moved_to w p c.ready.new.at c.ready.new.here c.ready.new.kept in
-    let Stays : ConsumerValue → Type 0 = λ x. StaysAt pool x.left (consumer_value v).left in
+    let drained = drains w c.args.self.now c.args.hand.now c.ready.new.hand p c.ready.new.at c.ready.new.here c.ready.new.kept c.ready.new.at c.ready.new.here c.ready.new.kept c.self.view_is c.self.invariant c.requires.own r.moved reading permits r.gone r.follows in
+    let Stays : ConsumerValue → Type 0 = λ x. StaysAt pool x.left (consumer_value (moved_to w p c.ready.new.at c.ready.new.here c.ready.new.kept)).left in
     let stays = subst Stays c.self.view_is (moved_stays (kind_list w.kinds) (spot w) pool p c.ready.new.at c.ready.new.here c.ready.new.kept c.self.invariant.reading own r.moved r.still) in
-    let reading = moved_keeps (kind_list w.kinds) (spot w) pool p c.ready.new.at c.ready.new.here c.ready.new.kept c.self.invariant.reading own r.placed r.moved r.still c.in-Err.ensures.read in
-    let drains_so = drains w c.args.self.now c.args.hand.now c.ready.new.hand p c.ready.new.at c.ready.new.here c.ready.new.kept c.ready.new.at c.ready.new.here c.ready.new.kept c.self.view_is c.self.invariant c.requires.own r.moved reading permits r.follows in (
-      (refl, λ _. tt, (tt, stays, drains_so)),
-      record { refused = c.in-Err.ensures.refused; room = omega (arith, permits, pinned, pins_le p.shown); follows = r.follows; after = tt },
-    )
+    let refusal = c.in_err-ready.field-0.0 in
+    let same : c.from_residual.result ≡ Err refusal = search rules in
+    rw same ((refl, λ _. tt, (tt, stays, drained)), record { refused = c.in_err-ready.ensures.refused; room = omega (arith, permits, pinned, pins_le p.shown); follows = r.follows; after = tt })
+
+pub invariant_of-self-then-not-branch : goal.invariant_of-self-then-not-branch
+invariant_of-self-then-not-branch g c =
+    let w : Inside = c.self.inside in
+    let pool : PoolName = c.args.hand.now.pool in
+    let p : Place = c.ready.new.place in
+    let own = own_items w c.args.self.now pool c.self.view_is c.requires.own in
+    let r = c.ready.ensures in
+    let no : c.in_ok-ready.field-0 ≡ false = search rules in
+    let end = on_false ((p.ahead ≡ 0) × (c.ready.new.here ≡ 0) × (p.shown ≡ None)) c.in_ok-ready.field-0 no c.in_ok-ready.ensures.end in
+    let reading = moved_keeps (kind_list w.kinds) (spot w) pool p c.ready.new.at c.ready.new.here c.ready.new.kept c.self.invariant.reading own r.placed r.moved r.still end.1 in
+    consumer_moved w pool p _ _ _ _ _ _ c.self.invariant r.moved reading
+
+pub returns-then-not-branch : goal.returns-then-not-branch
+returns-then-not-branch g c =
+    let w : Inside = c.self.inside in
+    let pool : PoolName = c.args.hand.now.pool in
+    let p : Place = c.ready.new.place in
+    let own = own_items w c.args.self.now pool c.self.view_is c.requires.own in
+    let r = c.ready.ensures in
+    let no : c.in_ok-ready.field-0 ≡ false = search rules in
+    let end = on_false ((p.ahead ≡ 0) × (c.ready.new.here ≡ 0) × (p.shown ≡ None)) c.in_ok-ready.field-0 no c.in_ok-ready.ensures.end in
+    let reading = moved_keeps (kind_list w.kinds) (spot w) pool p c.ready.new.at c.ready.new.here c.ready.new.kept c.self.invariant.reading own r.placed r.moved r.still end.1 in
+    let pinned = ap (λ (x : ConsumerValue). x.pinned) c.self.view_is in
+    let permits = r.permits in
+    let drained = drains w c.args.self.now c.args.hand.now c.ready.new.hand p c.ready.new.at c.ready.new.here c.ready.new.kept c.ready.new.at c.ready.new.here c.ready.new.kept c.self.view_is c.self.invariant c.requires.own r.moved reading permits r.gone r.follows in
+    let none = moved_end (kind_list w.kinds) (spot w) pool p c.ready.new.at c.ready.new.here c.ready.new.kept r.moved end.0 end.1 in
+    let before = ap (λ (x : ConsumerValue). x.left) c.self.view_is in
+    ((refl, λ _. tt, ((tt, (sym before ∙ none.0, none.1, no_blocks pool (at_spot p c.ready.new.at c.ready.new.here c.ready.new.kept) r.placed (r.moved.after ∙ c.self.invariant.frees) end.0 end.2)), tt, drained)), record { refused = tt; room = omega (arith, permits, pinned, pins_le p.shown); follows = r.follows; after = tt })
 
 pub invariant_of-self-2 : goal.invariant_of-self-2
 invariant_of-self-2 g c =
@@ -87,19 +87,11 @@ invariant_of-self-2 g c =
     let p : Place = c.ready.new.place in
     let own = own_items w c.args.self.now pool c.self.view_is c.requires.own in
     let r = c.ready.ensures in
-    let more = on_true ((0 < c.ready.new.here) × (0 < c.ready.new.kept → c.ready.new.at ≡ 0)) c.in-Ok-true.field-0 c.in-Ok-true.field-0-test c.in-Ok-true.ensures.more in
-    let ready : Ready (kind_list w.kinds) (spot w) pool p c.ready.new.at c.ready.new.here c.ready.new.kept = record {
-      reading = c.self.invariant.reading;
-      own = own;
-      placed = r.placed;
-      moved = r.moved;
-      still = r.still;
-      some = more.0;
-      start = more.1;
-    } in
+    let yes : c.in_ok-ready.field-0 ≡ true = search rules in
+    let ready = readied (kind_list w.kinds) (spot w) pool p c.ready.new.at c.ready.new.here c.ready.new.kept c.in_ok-ready.field-0 c.self.invariant.reading own r.placed r.moved r.still c.in_ok-ready.ensures.more yes in
     let e = c.give.ensures in
-    consumer_moved w pool p _ _ _ _ _ _ c.self.invariant r.moved
-    (after_give row_in_ref c.give.result (kind_list w.kinds) (spot w) pool p c.ready.new.at c.ready.new.here c.ready.new.kept c.give.new.at c.give.new.here c.give.new.kept ready e.within e.kept e.reads e.are e.some e.none e.stays)
+    let reading = after_give row_in_ref c.give.result (kind_list w.kinds) (spot w) pool p c.ready.new.at c.ready.new.here c.ready.new.kept c.give.new.at c.give.new.here c.give.new.kept ready e.within e.kept e.reads e.are e.some e.none e.stays in
+    consumer_moved w pool p _ _ _ _ _ _ c.self.invariant r.moved reading
 
 pub returns-in-Some : goal.returns-in-Some
 returns-in-Some g c =
@@ -108,30 +100,17 @@ returns-in-Some g c =
     let p : Place = c.ready.new.place in
     let own = own_items w c.args.self.now pool c.self.view_is c.requires.own in
     let r = c.ready.ensures in
-    let pinned = ap (λ (x : ConsumerValue). x.pinned) c.self.view_is in
-    let permits = r.permits in
-    let more = on_true ((0 < c.ready.new.here) × (0 < c.ready.new.kept → c.ready.new.at ≡ 0)) c.in-Ok-true.field-0 c.in-Ok-true.field-0-test c.in-Ok-true.ensures.more in
-    let ready : Ready (kind_list w.kinds) (spot w) pool p c.ready.new.at c.ready.new.here c.ready.new.kept = record {
-      reading = c.self.invariant.reading;
-      own = own;
-      placed = r.placed;
-      moved = r.moved;
-      still = r.still;
-      some = more.0;
-      start = more.1;
-    } in
-    let none : c.give.new.kept ≡ 0 = c.give.ensures.kept in
-    let Gave : ℕ → Type 0 = λ k. GaveRow (kind_list w.kinds) (at_spot p c.ready.new.at c.ready.new.here c.ready.new.kept) (row_in_ref c.in-Some.row) (at_spot p c.give.new.at c.give.new.here k) in
-    let next = gives_next (kind_list w.kinds) (spot w) pool p c.ready.new.at c.ready.new.here c.ready.new.kept c.give.new.at c.give.new.here (row_in_ref c.in-Some.row) ready c.give.ensures.within c.in-Some.ensures.some
-    (subst Gave none c.in-Some.ensures.reads) c.in-Some.ensures.are in
-    let GivesAt : ℕ → Type 0 = λ k. Gives pool (kind_list w.kinds) (consumer_value w).left (row_in_ref c.in-Some.row) (consumer_value (moved_to w p c.give.new.at c.give.new.here k)).left in
-    let GivesOf : ConsumerValue → Type 0 = λ x. Gives pool x.kinds x.left (row_in_ref c.in-Some.row) (consumer_value (moved_to w p c.give.new.at c.give.new.here c.give.new.kept)).left in
+    let yes : c.in_ok-ready.field-0 ≡ true = search rules in
+    let ready = readied (kind_list w.kinds) (spot w) pool p c.ready.new.at c.ready.new.here c.ready.new.kept c.in_ok-ready.field-0 c.self.invariant.reading own r.placed r.moved r.still c.in_ok-ready.ensures.more yes in
     let e = c.give.ensures in
     let reading = after_give row_in_ref c.give.result (kind_list w.kinds) (spot w) pool p c.ready.new.at c.ready.new.here c.ready.new.kept c.give.new.at c.give.new.here c.give.new.kept ready e.within e.kept e.reads e.are e.some e.none e.stays in
-    let drains_so = drains w c.args.self.now c.args.hand.now c.ready.new.hand p c.ready.new.at c.ready.new.here c.ready.new.kept c.give.new.at c.give.new.here c.give.new.kept c.self.view_is c.self.invariant c.requires.own r.moved reading permits r.follows in (
-      (refl, λ _. tt, (((subst GivesOf c.self.view_is (subst GivesAt (sym none) next.gives), r.placed.some more.0), tt), tt, drains_so)),
-      record { refused = tt; room = omega (arith, permits, pinned, pins_le p.shown); follows = r.follows; after = tt },
-    )
+    let pinned = ap (λ (x : ConsumerValue). x.pinned) c.self.view_is in
+    let permits = r.permits in
+    let drained = drains w c.args.self.now c.args.hand.now c.ready.new.hand p c.ready.new.at c.ready.new.here c.ready.new.kept c.give.new.at c.give.new.here c.give.new.kept c.self.view_is c.self.invariant c.requires.own r.moved reading permits r.gone r.follows in
+    let s = c.in-Some.ensures in
+    let GivesOf : ConsumerValue → Type 0 = λ x. Gives pool x.kinds x.left (row_in_ref c.in-Some.row) (consumer_value (moved_to w p c.give.new.at c.give.new.here c.give.new.kept)).left in
+    let gives = subst GivesOf c.self.view_is (gave (kind_list w.kinds) (spot w) pool p c.ready.new.at c.ready.new.here c.ready.new.kept c.give.new.at c.give.new.here c.give.new.kept (row_in_ref c.in-Some.row) ready e.within e.kept s.reads s.are s.some) in
+    ((refl, λ _. tt, (((gives, r.placed.some ready.some), tt), tt, drained)), record { refused = tt; room = omega (arith, permits, pinned, pins_le p.shown); follows = r.follows; after = tt })
 
 pub returns-in-None : goal.returns-in-None
 returns-in-None g c =
@@ -140,27 +119,15 @@ returns-in-None g c =
     let p : Place = c.ready.new.place in
     let own = own_items w c.args.self.now pool c.self.view_is c.requires.own in
     let r = c.ready.ensures in
-    let pinned = ap (λ (x : ConsumerValue). x.pinned) c.self.view_is in
-    let permits = r.permits in
-    let more = on_true ((0 < c.ready.new.here) × (0 < c.ready.new.kept → c.ready.new.at ≡ 0)) c.in-Ok-true.field-0 c.in-Ok-true.field-0-test c.in-Ok-true.ensures.more in
-    let ready : Ready (kind_list w.kinds) (spot w) pool p c.ready.new.at c.ready.new.here c.ready.new.kept = record {
-      reading = c.self.invariant.reading;
-      own = own;
-      placed = r.placed;
-      moved = r.moved;
-      still = r.still;
-      some = more.0;
-      start = more.1;
-    } in
-    let none : c.give.new.kept ≡ 0 = c.give.ensures.kept in
-    let same : c.give.new.here ≡ c.ready.new.here = c.in-None.ensures.stays in
-    let next = misses_next (kind_list w.kinds) (spot w) pool p c.ready.new.at c.ready.new.here c.ready.new.kept c.give.new.at ready c.give.ensures.within c.in-None.ensures.none in
-    let StaysAs : ℕ → Type 0 = λ k. StaysAt pool (consumer_value w).left (consumer_value (moved_to w p c.give.new.at c.ready.new.here k)).left in
-    let StaysHere : ℕ → Type 0 = λ h. StaysAt pool (consumer_value w).left (consumer_value (moved_to w p c.give.new.at h c.give.new.kept)).left in
-    let StaysOf : ConsumerValue → Type 0 = λ x. StaysAt pool x.left (consumer_value (moved_to w p c.give.new.at c.give.new.here c.give.new.kept)).left in
+    let yes : c.in_ok-ready.field-0 ≡ true = search rules in
+    let ready = readied (kind_list w.kinds) (spot w) pool p c.ready.new.at c.ready.new.here c.ready.new.kept c.in_ok-ready.field-0 c.self.invariant.reading own r.placed r.moved r.still c.in_ok-ready.ensures.more yes in
     let e = c.give.ensures in
     let reading = after_give row_in_ref c.give.result (kind_list w.kinds) (spot w) pool p c.ready.new.at c.ready.new.here c.ready.new.kept c.give.new.at c.give.new.here c.give.new.kept ready e.within e.kept e.reads e.are e.some e.none e.stays in
-    let drains_so = drains w c.args.self.now c.args.hand.now c.ready.new.hand p c.ready.new.at c.ready.new.here c.ready.new.kept c.give.new.at c.give.new.here c.give.new.kept c.self.view_is c.self.invariant c.requires.own r.moved reading permits r.follows in (
-      (refl, λ _. tt, (tt, subst StaysOf c.self.view_is (subst StaysHere (sym same) (subst StaysAs (sym none) next.stays)), drains_so)),
-      record { refused = next.untold; room = omega (arith, permits, pinned, pins_le p.shown); follows = r.follows; after = tt },
-    )
+    let pinned = ap (λ (x : ConsumerValue). x.pinned) c.self.view_is in
+    let permits = r.permits in
+    let drained = drains w c.args.self.now c.args.hand.now c.ready.new.hand p c.ready.new.at c.ready.new.here c.ready.new.kept c.give.new.at c.give.new.here c.give.new.kept c.self.view_is c.self.invariant c.requires.own r.moved reading permits r.gone r.follows in
+    let n = c.in-None.ensures in
+    let StaysOf : ConsumerValue → Type 0 = λ x. StaysAt pool x.left (consumer_value (moved_to w p c.give.new.at c.give.new.here c.give.new.kept)).left in
+    let stays = subst StaysOf c.self.view_is (missed (kind_list w.kinds) (spot w) pool p c.ready.new.at c.ready.new.here c.ready.new.kept c.give.new.at c.give.new.here c.give.new.kept ready e.within e.kept n.none n.stays) in
+    let untold = (misses_next (kind_list w.kinds) (spot w) pool p c.ready.new.at c.ready.new.here c.ready.new.kept c.give.new.at ready e.within n.none).untold in
+    ((refl, λ _. tt, (tt, stays, drained)), record { refused = untold; room = omega (arith, permits, pinned, pins_le p.shown); follows = r.follows; after = tt })

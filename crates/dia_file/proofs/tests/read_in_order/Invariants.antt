@@ -1,6 +1,6 @@
 use Rattle.std.proofs.Common.{◌≡◌, ◌+◌}
 use Rattle.dia_file.specs.Files.{IsFileOf}
-use Rattle.dia_file.proofs.tests.sum_over_faults.Given as goal
+use Rattle.dia_file.proofs.tests.read_in_order.Given as goal
 
 abbrev pub invariant-loop : goal.invariant-loop
 invariant-loop g l = record {
