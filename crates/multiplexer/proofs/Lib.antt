@@ -1,0 +1,6 @@
+mod Deliveries
+mod Lists
+mod Gathers
+mod Sendings
+mod Openings
+mod Ends
