@@ -1,0 +1,5 @@
+pub mod Results
+pub mod Changes
+pub mod Counting
+pub mod Rooted
+pub mod Making

@@ -1,0 +1,50 @@
+-- What a stock holds.
+use Rattle.std.specs.Prelude.{◌≡◌, ℕ, ◌<◌, List, All, Option, None, Some, length, ⊤}
+use Rattle.std.specs.List.{AllZip}
+use Rattle.row_defs.specs.declared.kind.Kind.{Kind}
+use Rattle.block_pool.specs.Handles.{PoolName, AreOfPool}
+use Rattle.dia_file.specs.Files.{FileValue, IsFileOf}
+use Rattle.scatter.specs.declared.stock.Stock.TheInside.{Inside}
+use Rattle.scatter.specs.Feeds.{FeedValue}
+use Rattle.scatter.specs.Lines.{LineValue, Lines, lines_among, entries_of, lines_in, HasKinds}
+
+pub record StockValue (X : Type 0) : Type 0 where
+  pub net : X
+  pub workers : ℕ
+  pub entries : List (ℕ × LineValue)
+
+abbrev pub stock_value : {X : Type 0} → Inside X → StockValue X
+stock_value s = record { net = s.net; workers = s.workers; entries = entries_of s.lines }
+
+-- the lines in stock, by number
+abbrev pub lines_of : {X : Type 0} → StockValue X → Lines
+lines_of s = lines_among s.entries
+
+-- a part that is there has the kinds
+abbrev pub PartHasKinds : List Kind → Option FileValue → Type 0
+PartHasKinds kinds None = ⊤
+PartHasKinds kinds (Some f) = HasKinds kinds f
+
+pub record IsLine (workers : ℕ) (line : LineValue) : Type 0 where
+  pub count : length line.parts ≡ workers
+  pub kinds : All (PartHasKinds line.kinds) line.parts
+
+abbrev pub AreLines : ℕ → Lines → Type 0
+AreLines workers lines = (n : ℕ) (line : LineValue) → lines n ≡ Some line → IsLine workers line
+
+pub record IsStock {X : Type 0} (s : Inside X) : Type 0 where
+  pub some : 0 < s.workers
+  pub lines : AreLines s.workers (lines_in s.lines)
+
+-- a part that is there is of this pool
+abbrev pub IsPartOf : PoolName → Option FileValue → Type 0
+IsPartOf pool None = ⊤
+IsPartOf pool (Some f) = IsFileOf pool f
+
+-- each worker's parts that are there are of its pool
+abbrev pub AreInPools : List PoolName → Lines → Type 0
+AreInPools pools lines = (n : ℕ) (line : LineValue) → lines n ≡ Some line → AllZip IsPartOf pools line.parts
+
+-- each worker's feed is of its pool
+abbrev pub FeedsAreInPools : List PoolName → List FeedValue → Type 0
+FeedsAreInPools pools feeds = AllZip (λ pool (f : FeedValue). AreOfPool pool f.blocks) pools feeds

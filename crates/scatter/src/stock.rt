@@ -1,0 +1,133 @@
+//! Lines in stock.
+ghost use Rattle.std.specs.Prelude.{◌≡◌, ◌<◌, ℕ, List, All, map, length, None, Some, IfOk, IfErr, OnOk, OnErr, vec_len, slice_get, slice_set};
+ghost use Rattle.std.specs.List.{AllZip, flat_map};
+ghost use Rattle.block_pool.specs.Handles.{PoolName};
+ghost use Rattle.dia_file.specs.Files.{FileValue, IsFileOf};
+ghost use Rattle.lop_chain.specs.Operands.{root_in};
+ghost use Rattle.lop_chain.specs.Ops.{ops_in};
+ghost use Rattle.scatter.specs.Lines.{LineValue, with_parts, first_kinds, HasKinds, Sets, IsLent, HasRoot, root_rows, root_kinds, root_feeds, IsFedFrom};
+
+use crate::feed::Feed;
+use crate::feeding::{chains_of, feed_root};
+use crate::line::{Line, put_back};
+use crate::net::Net;
+use dia_edge::NoMemory;
+use dia_file::File;
+use lop_chain::Operand;
+use std::alloc::Global;
+use std::collections::BTreeMap;
+use std::marker::Model;
+
+/// The lines that are stored, by their numbers, and the net that brings blocks between the workers' pools. Contracts see of
+/// each line its kinds and one part per worker, none where that is lent.
+#[derive(Drop)]
+pub struct Stock<X> {
+    net: X,
+    workers: u32,
+    lines: BTreeMap<u32, Line>,
+}
+
+impl<X> Model for Stock<X> {
+    ghost use Rattle.std.specs.Coded.{codes};
+    ghost use Rattle.scatter.specs.Stocks.{StockValue, stock_value, IsStock};
+
+    ghost Value = { StockValue X };
+
+    ghost coded = { Prim.hlevel (codes, X.code) };
+
+    ghost view = { stock_value };
+
+    ghost invariant = { IsStock };
+}
+
+impl<X: Net> Stock<X> {
+    ghost use Rattle.scatter.specs.Feeds.{FeedValue};
+    ghost use Rattle.scatter.specs.Stocks.{lines_of, AreInPools, FeedsAreInPools};
+
+    /// No lines, for so many workers. It takes no memory yet.
+    pub fn new(alloc: Global, net: X, workers: u32) -> Result<Stock<X>, (X, NoMemory)>
+        requires { 0 < workers }
+        ensures net { IfOk result (λ stock. stock.net ≡ net) }
+        ensures workers { IfOk result (λ stock. stock.workers ≡ workers) }
+        ensures lines { IfOk result (λ stock. (n : ℕ) → lines_of stock n ≡ None) }
+        ensures refused { IfErr result (λ refused. refused.0 ≡ net) }
+    {
+        Ok(Stock {
+            net,
+            workers,
+            lines: BTreeMap::new(alloc),
+        })
+    }
+
+    /// The line has these parts, one per worker and of the worker's pool, in place of those that it had. Without memory the
+    /// lines are as they were.
+    pub fn put(&mut self, alloc: Global, line: u32, parts: Vec<File>) -> Result<(), NoMemory>
+        requires count { vec_len parts ≡ self.old.workers }
+        requires kinds { All (HasKinds (first_kinds parts.items)) parts.items }
+        ensures lines { OnOk result (Sets (lines_of self.old) line
+            (Some (record { kinds = first_kinds parts.items; parts = map (λ (f : FileValue). Some f) parts.items })) (lines_of self.new)) }
+        ensures pools { OnOk result ((pools : List PoolName) → AreInPools pools (lines_of self.old) → AllZip IsFileOf pools parts.items
+            → AreInPools pools (lines_of self.new)) }
+        ensures net { self.new.net ≡ self.old.net }
+        ensures workers { self.new.workers ≡ self.old.workers }
+        ensures err { OnErr result (self.new ≡ self.old) }
+    {
+        let room = Vec::with_capacity(alloc, self.workers as usize)?;
+        let kept = Line::new(parts, room);
+        match self.lines.insert(line, kept) {
+            Ok(_) => Ok(()),
+            Err(_) => Err(NoMemory),
+        }
+    }
+
+    /// The feeds of an operand, one per worker: joined by rank they have its root's rows. A stored line's parts are lent until
+    /// `restore`, and where this is the last use they are freed as they are read, and the line leaves the stock. Without
+    /// memory the lines are as they were.
+    pub fn feeds(
+        &mut self,
+        alloc: Global,
+        operand: &Operand,
+        last: bool,
+    ) -> Result<Vec<Feed>, NoMemory>
+        requires { HasRoot (lines_of self.old) (root_in operand.now.root) }
+        ensures feeds { IfOk result (λ feeds. feeds.items
+            ≡ root_feeds (lines_of self.old) self.old.workers (root_in operand.now.root) last (ops_in operand.now.chain.items)) }
+        ensures rows { IfOk result (λ feeds. flat_map (λ (f : FeedValue). f.left) feeds.items ≡ root_rows (lines_of self.old) (root_in operand.now.root)) }
+        ensures kinds { IfOk result (λ feeds. All (λ (f : FeedValue). f.kinds ≡ root_kinds (lines_of self.old) (root_in operand.now.root)) feeds.items) }
+        ensures count { IfOk result (λ feeds. vec_len feeds ≡ self.old.workers) }
+        ensures lines { OnOk result (IsFedFrom (lines_of self.old) (root_in operand.now.root) last (lines_of self.new)) }
+        ensures pools { OnOk result ((pools : List PoolName) → AreInPools pools (lines_of self.old) → AreInPools pools (lines_of self.new)) }
+        ensures own { IfOk result (λ feeds. (pools : List PoolName) → length pools ≡ self.old.workers → AreInPools pools (lines_of self.old) → FeedsAreInPools pools feeds.items) }
+        ensures net { self.new.net ≡ self.old.net }
+        ensures workers { self.new.workers ≡ self.old.workers }
+        ensures err { OnErr result (self.new ≡ self.old) }
+    {
+        let chains = chains_of(alloc, operand.chain.as_slice(), self.workers)?;
+        feed_root(alloc, &mut self.lines, operand.root, chains, last)
+    }
+
+    /// The part of a line comes back from the worker to whom it was lent. It takes no memory and has no refusal.
+    pub fn restore(&mut self, line: u32, rank: u32, file: File)
+        requires { IsLent (lines_of self.old) line rank file.kinds }
+        ensures lines { (old : LineValue) → lines_of self.old line ≡ Some old
+            → Sets (lines_of self.old) line (Some (with_parts old (slice_set old.parts rank (Some file)))) (lines_of self.new) }
+        ensures pools { (pools : List PoolName) (pool : PoolName) → slice_get pools rank ≡ Some pool → IsFileOf pool file
+            → AreInPools pools (lines_of self.old) → AreInPools pools (lines_of self.new) }
+        ensures net { self.new.net ≡ self.old.net }
+        ensures workers { self.new.workers ≡ self.old.workers }
+    {
+        put_back(&mut self.lines, line, rank, file);
+    }
+
+    /// Ends it: the lines are gone, and their blocks stay in the pools until those end.
+    pub fn end(self) -> X
+        ensures { result ≡ self.net }
+    {
+        let Stock {
+            net,
+            workers: _,
+            lines: _,
+        } = self;
+        net
+    }
+}
