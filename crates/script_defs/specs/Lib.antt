@@ -9,3 +9,4 @@ pub mod Lists
 pub mod Work
 pub mod Plans
 pub mod Runs
+pub mod Ends

@@ -20,11 +20,12 @@ use Rattle.job_words.specs.declared.fault.TopFault.TheVariants as faults
 use Rattle.job_words.specs.Faults.{fault_status}
 use Rattle.thrill_top.specs.declared.read.BytesErr.{BytesErr}
 use Rattle.thrill_top.specs.declared.read.BytesErr.TheVariants as bytes_errors
-use Rattle.thrill_top.specs.declared.stage.RunErr.{RunErr}
-use Rattle.thrill_top.specs.declared.stage.RunErr.TheVariants as errors
+use Rattle.thrill_top.specs.declared.run_err.RunErr.{RunErr}
+use Rattle.thrill_top.specs.declared.run_err.RunErr.TheVariants as errors
 use Rattle.thrill_top.specs.Ends.{IsAbsentBytes, IsCallFault}
 use Rattle.thrill_top.specs.Errors.{bytes_fault, script_fault, run_fault, TellsBytes, TellsRun, TellsFault}
-use Rattle.thrill_top.specs.Promise.{IsStopped, IsAccepted, CallEnd, EndsRun, EndsCall, IsRefusedScript, IsOpen, IsReadable, IsRefusedWith, TellsScript, IsTooMany, HasNoTooMany, IsWhole}
+use Rattle.script_defs.specs.Ends.{IsStopped, IsTooMany}
+use Rattle.thrill_top.specs.Promise.{IsAccepted, CallEnd, EndsRun, EndsCall, IsRefusedScript, IsOpen, IsReadable, IsRefusedWith, TellsScript, HasNoTooMany, IsWhole}
 
 -- what is known of the fault of each layer ----------------------------------------------------------------------------
 

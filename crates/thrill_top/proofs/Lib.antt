@@ -1,7 +1,7 @@
 pub mod ReadLemmas
+pub mod KeptLemmas
 pub mod StepLemmas
-pub mod ActionLemmas
 pub mod TaskLemmas
-pub mod StageLemmas
+pub mod PlanLemmas
 pub mod EndLemmas
 pub mod AskLemmas

@@ -1,5 +1,7 @@
 -- How the errors of the layers below end a call, and the counts that they tell.
 use Rattle.std.specs.Prelude.{ℕ, List, Option, None, Some, Result, Ok, Err}
+use Rattle.row_defs.specs.Inputs.{missing, line_too_long, input_too_long}
+use Rattle.script_defs.specs.Ends.{Ending, stopped, too_many, cut_off}
 use Rattle.dia_edge.specs.Counts.{TellsCount}
 use Rattle.dia_edge.specs.declared.refusals.NoMemory.{NoMemory}
 use Rattle.dia_lines.specs.declared.input.InputErr as inputs
@@ -12,8 +14,8 @@ use Rattle.job_words.specs.declared.fault.TopFault.{TopFault}
 use Rattle.job_words.specs.declared.fault.TopFault.TheVariants as faults
 use Rattle.thrill_top.specs.declared.read.BytesErr.{BytesErr}
 use Rattle.thrill_top.specs.declared.read.BytesErr.TheVariants as bytes_errors
-use Rattle.thrill_top.specs.declared.stage.RunErr.{RunErr}
-use Rattle.thrill_top.specs.declared.stage.RunErr.TheVariants as run_errors
+use Rattle.thrill_top.specs.declared.run_err.RunErr.{RunErr}
+use Rattle.thrill_top.specs.declared.run_err.RunErr.TheVariants as run_errors
 
 -- a line of an input wasn't read
 abbrev pub input_error : List ℕ → inputs.InputErr NoMemory → RunErr
@@ -53,6 +55,16 @@ run_fault run_errors.NoMemory = faults.NoMemory
 abbrev pub run_end : {T : Type 0} → Result T RunErr → Option TopFault
 run_end (Ok done) = None
 run_end (Err e) = Some (run_fault e)
+
+-- how a run that was stopped by an error ends
+abbrev pub ending_of : RunErr → Ending
+ending_of (run_errors.Missing name) = stopped name missing
+ending_of (run_errors.LineTooLong name line) = stopped name (line_too_long line)
+ending_of (run_errors.InputTooLong name) = stopped name input_too_long
+ending_of (run_errors.TooManyRows line) = too_many line
+ending_of (run_errors.Read count) = cut_off
+ending_of (run_errors.Write count) = cut_off
+ending_of run_errors.NoMemory = cut_off
 
 -- counts --------------------------------------------------------------------------------------------------------------
 

@@ -1,54 +1,20 @@
 -- What a call promises, by how it ended. The shelf tells what it holds and is fixed; of an `out` that tells, what it took.
 use Rattle.std.specs.Prelude.{◌≡◌, ◌⊎◌, ℕ, Bool, true, List, [], ◌∷◌, ◌++◌, All, length, drop, Option, None, Some, Result, Ok, Err}
 use Rattle.row_defs.specs.declared.cause.Cause.{Cause}
-use Rattle.script_defs.specs.Scripts.{lines_form, line, Script, statement_at}
+use Rattle.script_defs.specs.Scripts.{Script}
 use Rattle.script_defs.specs.Reading.{ReadsAs, IsRefused}
-use Rattle.row_defs.specs.Inputs.{Inputs, InputFailure, missing, line_too_long, input_too_long}
-use Rattle.script_defs.specs.Lists.{Lists, input_failure, too_many_rows}
-use Rattle.script_defs.specs.Work.{Item, do_line, do_action, work_of}
-use Rattle.script_defs.specs.Runs.{IsRun, failure_of, run_texts}
+use Rattle.row_defs.specs.Inputs.{Inputs, missing, line_too_long, input_too_long}
+use Rattle.script_defs.specs.Work.{Item, work_of}
+use Rattle.script_defs.specs.Runs.{failure_of}
+use Rattle.script_defs.specs.Ends.{IsDone, IsStopped, IsTooMany, IsCutOff}
 use Rattle.dia_edge.specs.Shelves.{Holdings}
-use Rattle.dia_edge.specs.Sinks.{TookAll}
+use Rattle.stage_laws.specs.Standing.{Ended}
 use Rattle.job_words.specs.declared.fault.TopFault.{TopFault}
 use Rattle.job_words.specs.declared.fault.TopFault.TheVariants as faults
 
 -- a fixed shelf that tells holds these inputs
 abbrev pub TellsInputs : Option Holdings → Bool → Inputs → Type 0
 TellsInputs holds fixed inputs = (holds ≡ Some inputs) × (fixed ≡ true)
-
--- each of the lines among the first n items of the work has one list, a result of its definition on the lists that it
--- names, and these bytes are the texts of the actions among them on these lists
-pub record IsDone (script : Script) (inputs : Inputs) (n : ℕ) (took : List ℕ) : Type 0 where
-  pub lists : Lists
-  pub run : IsRun script inputs lists n
-  pub texts : took ≡ run_texts script lists n
-
--- the same, and the next item can't be done, for this cause; it is the line of the input with this name
-pub record IsStopped (script : Script) (inputs : Inputs) (name : List ℕ) (cause : InputFailure) (took : List ℕ) : Type 0 where
-  pub count : ℕ
-  pub done : IsDone script inputs count took
-  pub next : ℕ
-  pub left : List Item
-  pub work : drop count (work_of script) ≡ do_line next ∷ left
-  pub defined : List ℕ
-  pub is : statement_at script next ≡ Some (line defined (lines_form name))
-  pub fails : failure_of script inputs done.lists (do_line next) ≡ Some (input_failure cause)
-
--- the same, and the next item is the action on this line, at which more rows arrive than may
-pub record IsTooMany (script : Script) (inputs : Inputs) (n : ℕ) (took : List ℕ) : Type 0 where
-  pub count : ℕ
-  pub done : IsDone script inputs count took
-  pub left : List Item
-  pub work : drop count (work_of script) ≡ do_action n ∷ left
-  pub fails : failure_of script inputs done.lists (do_action n) ≡ Some too_many_rows
-
--- these bytes are a prefix of the texts of some first items
-pub record IsCutOff (script : Script) (inputs : Inputs) (took : List ℕ) : Type 0 where
-  pub count : ℕ
-  pub all : List ℕ
-  pub done : IsDone script inputs count all
-  pub rest : List ℕ
-  pub parts : all ≡ took ++ rest
 
 -- how the run of an accepted script ends, and what `out` took
 abbrev pub RunEnd : Script → Inputs → Option TopFault → List ℕ → Type 0
@@ -89,15 +55,11 @@ CallEnd inputs name (Some faults.NoMemory) took = (took ≡ []) ⊎ IsAccepted i
 CallEnd inputs name fault took = IsAccepted inputs name fault took
 
 -- since it began, when `out` told `begun`
-pub record EndsRun (script : Script) (inputs : Inputs) (begun : Option (List ℕ)) (fault : Option TopFault) (taken : Option (List ℕ)) : Type 0 where
-  pub took : List ℕ
-  pub since : TookAll begun took taken
-  pub end : RunEnd script inputs fault took
+abbrev pub EndsRun : Script → Inputs → Option (List ℕ) → Option TopFault → Option (List ℕ) → Type 0
+EndsRun script inputs begun fault taken = Ended begun (RunEnd script inputs fault) taken
 
-pub record EndsCall (inputs : Inputs) (name : List ℕ) (begun : Option (List ℕ)) (fault : Option TopFault) (taken : Option (List ℕ)) : Type 0 where
-  pub took : List ℕ
-  pub since : TookAll begun took taken
-  pub end : CallEnd inputs name fault took
+abbrev pub EndsCall : Inputs → List ℕ → Option (List ℕ) → Option TopFault → Option (List ℕ) → Type 0
+EndsCall inputs name begun fault taken = Ended begun (CallEnd inputs name fault) taken
 
 -- the fault of a call that answers none or one
 abbrev pub fault_in : {T : Type 0} → Result T TopFault → Option TopFault

@@ -1,5 +1,5 @@
--- Where a run stands, and how each stage goes on from there.
-use Rattle.std.specs.Prelude.{◌≡◌, ◌⊎◌, ℕ, Bool, true, List, [], ◌∷◌, ◌++◌, map, filter, Option, Some, IsSome}
+-- What a run holds, and how it goes on with each stage.
+use Rattle.std.specs.Prelude.{◌≡◌, ◌≤◌, ℕ, Bool, List, [], ◌∷◌, Option, None, Some, if◌then◌else◌}
 use Rattle.std.specs.Ordering.{nat_cmp}
 use Rattle.std.specs.BTreeMap.{BTreeMap, get}
 use Rattle.row_defs.specs.Rows.{Row}
@@ -10,24 +10,18 @@ use Rattle.row_defs.specs.declared.kind.Kind.TheVariants.{Int, Text}
 use Rattle.row_defs.specs.LocalOps.{AreSoundOps}
 use Rattle.row_defs.specs.Operands.{Root, stored_root, count_root, Operand}
 use Rattle.row_feed.specs.declared.source.Source.{Source}
-use Rattle.row_feed.specs.declared.source.Source.TheVariants.{Lines, Numbers}
-use Rattle.script_defs.specs.Scripts.{lines_form, line, Action, Script, statement_at}
-use Rattle.script_defs.specs.Reading.{nothing_known}
-use Rattle.script_defs.specs.Sound.{IsSound, IsSoundAction}
-use Rattle.script_defs.specs.Lists.{Lists}
-use Rattle.script_defs.specs.Work.{Item, has_number}
-use Rattle.script_defs.specs.Plans.{Stage, IsStage, item_of, is_stage}
+use Rattle.row_feed.specs.Sources.{source_rows, source_kinds}
+use Rattle.script_defs.specs.Scripts.{Action}
+use Rattle.script_defs.specs.Sound.{IsSoundAction}
+use Rattle.script_defs.specs.Work.{Item}
 use Rattle.dia_edge.specs.Shelves.{Holdings}
-use Rattle.dia_edge.specs.Sinks.{TookAll}
-use Rattle.run_laws.specs.Order.{lines_among, InWork}
-use Rattle.run_laws.specs.Laws.{IsRunOf, texts_among}
-use Rattle.thrill_top.specs.declared.stage.RunErr.{RunErr}
-use Rattle.thrill_top.specs.Errors.{run_fault}
-use Rattle.thrill_top.specs.Promise.{TellsInputs, EndsRun}
-
--- the rows that are kept for each line
-abbrev pub Kept : Type 0
-Kept = ℕ → Option (List Row)
+use Rattle.dia_edge.specs.declared.shelf.Shelf as shelves
+use Rattle.dia_edge.specs.declared.sink.Sink as sinks
+use Rattle.dia_lines.specs.Inputs.{Stays}
+use Rattle.stage_laws.specs.Standing.{Kept, HasRows, AreAtRoot, GoesOn, Stops, KeepsOn}
+use Rattle.thrill_top.specs.declared.run.Run.{Run}
+use Rattle.thrill_top.specs.declared.run_err.RunErr.{RunErr}
+use Rattle.thrill_top.specs.Errors.{ending_of}
 
 abbrev pub kept_in : BTreeMap ℕ (List Row) → Kept
 kept_in map = get nat_cmp map
@@ -35,81 +29,50 @@ kept_in map = get nat_cmp map
 abbrev pub AreLines : Kept → Type 0
 AreLines kept = (n : ℕ) (rows : List Row) → kept n ≡ Some rows → (bytes : List ℕ) × (rows ≡ line_rows bytes)
 
--- these rows are kept too, for line n
-pub record KeepsOneMore (kept : Kept) (n : ℕ) (rows : List Row) (now : Kept) : Type 0 where
-  pub here : now n ≡ Some rows
-  pub others : (m : ℕ) → (now m ≡ kept m) ⊎ ((m ≡ n) × (now m ≡ Some rows))
-
--- each line of an input among the items done is kept
-pub record AreKept (script : Script) (done : List Item) (kept : Kept) : Type 0 where
-  pub there : (l : ℕ) (name input : List ℕ) → has_number (lines_among done) l ≡ true → statement_at script l ≡ Some (line name (lines_form input)) → IsSome (kept l)
-  pub lines : AreLines kept
-
--- the rows at a root are kept, or need not be
-abbrev pub HasRows : Kept → Root → Type 0
-HasRows kept (stored_root n) = IsSome (kept n)
-HasRows kept (count_root n rows) = Unit {0}
-
 -- what is kept are texts
 abbrev pub root_kinds : Root → List Kind
 root_kinds (stored_root n) = Text ∷ []
 root_kinds (count_root n rows) = Int ∷ []
 
 -- the source has the rows at the root
-abbrev pub IsSourceOf : Kept → Root → Source → Type 0
-IsSourceOf kept (stored_root n) (Lines rows) = kept n ≡ Some rows.now
-IsSourceOf kept (count_root n count) (Numbers m) = m ≡ count
-IsSourceOf kept _ source = ⊥
+pub record IsSourceOf (kept : Kept) (root : Root) (source : Source) : Type 0 where
+  pub rows : AreAtRoot kept root (source_rows source)
+  pub kinds : source_kinds source ≡ root_kinds root
 
--- what is kept for a line is its list
-abbrev pub AreListed : Lists → Kept → Type 0
-AreListed lists kept = (n : ℕ) (rows : List Row) → kept n ≡ Some rows → lists n ≡ Some rows
-
--- these items are a run, and since `out` told `begun` it took their texts
-pub record IsAt (script : Script) (inputs : Inputs) (begun : Option (List ℕ)) (done : List Item) (kept : Kept) (taken : Option (List ℕ)) : Type 0 where
-  pub lists : Lists
-  pub run : IsRunOf script inputs lists done
-  pub are : AreListed lists kept
-  pub since : TookAll begun (texts_among script lists done) taken
-
--- wherever a run stood before this item, it stands behind it
-abbrev pub GoesOn : Script → Option Holdings → Bool → Item → Kept → Option (List ℕ) → Kept → Option (List ℕ) → Type 0
-GoesOn script holds fixed item kept taken kept_now taken_now =
-    (inputs : Inputs) (begun : Option (List ℕ)) (done left : List Item) → TellsInputs holds fixed inputs → InWork script done (item ∷ left)
-    → IsAt script inputs begun done kept taken → IsAt script inputs begun (done ++ item ∷ []) kept_now taken_now
-
--- wherever a run stood before this item, it ends with the error
-abbrev pub Stops : Script → Option Holdings → Bool → Item → Kept → Option (List ℕ) → RunErr → Option (List ℕ) → Type 0
-Stops script holds fixed item kept taken e taken_now =
-    (inputs : Inputs) (begun : Option (List ℕ)) (done left : List Item) → TellsInputs holds fixed inputs → InWork script done (item ∷ left)
-    → IsAt script inputs begun done kept taken → EndsRun script inputs begun (Some (run_fault e)) taken_now
-
--- and what is kept
-abbrev pub KeepsOn : Script → Item → Kept → Kept → Type 0
-KeepsOn script item kept kept_now =
-    (done left : List Item) → InWork script done (item ∷ left) → AreKept script done kept → AreKept script (done ++ item ∷ []) kept_now
-
--- an action can be done on an operand: the rows at its root are kept, and the local lines and the action take them
+-- an action can be done on an operand: the rows at its root are there, and the local lines and the action take them
 pub record IsDoable (action : Action) (o : Operand) (kept : Kept) : Type 0 where
   pub rows : HasRows kept o.root
-  pub lines : AreLines kept
   pub sound : AreSoundOps (root_kinds o.root) o.chain o.kinds
   pub acts : IsSoundAction o.kinds action
 
--- a stage can be done: of the work of an accepted script the items before it are done, and what they keep is kept
-pub record CanDo (script : Script) (stage : Stage) (kept : Kept) : Type 0 where
-  pub sound : IsSound nothing_known 1 script
-  pub is : IsStage script stage
-  pub done : List Item
-  pub left : List Item
-  pub work : InWork script done (item_of stage.number stage.statement ∷ left)
-  pub are : AreKept script done kept
+-- the inputs, where a shelf that is fixed tells them
+abbrev pub told_in : Option Holdings → Bool → Option Inputs
+told_in holds fixed = if fixed then holds else None
 
--- a run that began when the shelf held this and `out` told `begun` stands before these stages
-pub record Stands (script : Script) (holds : Option Holdings) (fixed : Bool) (begun : Option (List ℕ)) (stages : List Stage) (kept : Kept) (taken : Option (List ℕ)) : Type 0 where
-  pub done : List Item
-  pub left : List Item
-  pub work : InWork script done left
-  pub rest : map (λ (s : Stage). item_of s.number s.statement) stages ≡ filter (is_stage script) left
-  pub are : AreKept script done kept
-  pub at : (inputs : Inputs) → TellsInputs holds fixed inputs → IsAt script inputs begun done kept taken
+-- runs ----------------------------------------------------------------------------------------------------------------
+
+-- between two stages what is kept are the lines of inputs, and no text waits to be written
+pub record IsHeld {N S : Type 0} (run : Run N S) : Type 0 where
+  pub lines : AreLines (kept_in run.kept.now)
+  pub empty : run.buffers.now.text ≡ []
+
+-- what stays, whatever a stage answers: the script, the loans' names, so that their lenders know what they hold after the
+-- run, and what no call of a shelf or a sink changes
+pub record RunStays {N S : Type 0} (n : shelves.Ghosts N) (s : sinks.Ghosts S) (old new : Run N S) : Type 0 where
+  pub script : new.script.now ≡ old.script.now
+  pub shelf_loan : new.shelf.ghost_name ≡ old.shelf.ghost_name
+  pub out_loan : new.out.ghost_name ≡ old.out.ghost_name
+  pub shelf : Stays n old.shelf.now new.shelf.now
+  pub writes : s.faults old.out.now ≤ s.faults new.out.now
+
+abbrev pub told_by : {N S : Type 0} → shelves.Ghosts N → Run N S → Option Inputs
+told_by n run = told_in (n.holds run.shelf.now) (n.is_fixed run.shelf.now)
+
+-- the run does this item, and goes on
+pub record Does {N S : Type 0} (n : shelves.Ghosts N) (s : sinks.Ghosts S) (item : Item) (old new : Run N S) : Type 0 where
+  pub goes : GoesOn old.script.now (told_by n old) item (kept_in old.kept.now) (s.taken old.out.now) (kept_in new.kept.now) (s.taken new.out.now)
+  pub keeps : KeepsOn old.script.now item (kept_in old.kept.now) (kept_in new.kept.now)
+
+-- or it stops there with an error
+abbrev pub StopsAt : {N S : Type 0} → shelves.Ghosts N → sinks.Ghosts S → Item → Run N S → RunErr → Run N S → Type 0
+StopsAt n s item old e new = Stops old.script.now (told_by n old) item (kept_in old.kept.now) (s.taken old.out.now) (ending_of e) (s.taken new.out.now)

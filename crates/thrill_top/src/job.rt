@@ -11,7 +11,7 @@ ghost use Rattle.thrill_top.specs.Promise.{TellsInputs, TellsScript, EndsCall, f
 
 use crate::read::{BytesErr, read_bytes};
 use crate::run::run_accepted;
-use crate::stage::RunErr;
+use crate::run_err::RunErr;
 use dia_edge::{Name, NoMemory, Shelf, Sink};
 use job_words::TopFault;
 use script_read::{ReadErr, read_script};

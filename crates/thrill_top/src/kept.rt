@@ -1,8 +1,8 @@
 //! The rows of inputs' lines, kept until the run ends.
-ghost use Rattle.std.specs.Prelude.{◌≡◌};
 ghost use Rattle.lop_chain.specs.Operands.{root_in};
 ghost use Rattle.row_feed.specs.Sources.{IsSource};
-ghost use Rattle.thrill_top.specs.Steps.{kept_in, AreLines, HasRows, IsSourceOf};
+ghost use Rattle.stage_laws.specs.Standing.{HasRows};
+ghost use Rattle.thrill_top.specs.Steps.{kept_in, AreLines, IsSourceOf};
 
 use dia_lines::LineRows;
 use lop_chain::Root;

@@ -8,7 +8,7 @@ mod job;
 mod kept;
 mod read;
 mod run;
-mod stage;
+mod run_err;
 mod top;
 
 pub use job_words::TopFault;

@@ -1,4 +1,4 @@
-use Rattle.std.proofs.Common.{◌≡◌, ℕ, Result, Some, sym, ap, subst, refl, ◌∙◌}
+use Rattle.std.proofs.Common.{◌≡◌, ℕ, Result, None, Some, sym, ap, subst, refl, ◌∙◌}
 use Rattle.row_defs.specs.declared.cause.Cause.{Cause}
 use Rattle.script_defs.specs.Scripts.{Script}
 use Rattle.script_defs.specs.Reading.{reading_of}
@@ -6,6 +6,7 @@ use Rattle.script_read.specs.Answering.{IsReason}
 use Rattle.job_words.specs.declared.fault.TopFault.{TopFault}
 use Rattle.thrill_top.specs.declared.read.TheConstants.{ASKED}
 use Rattle.job_words.specs.Faults.{fault_status}
+use Rattle.thrill_top.specs.Errors.{run_fault}
 use Rattle.thrill_top.specs.Promise.{EndsCall, TellsScript}
 use Rattle.thrill_top.proofs.ReadLemmas.{reading_cut}
 use Rattle.thrill_top.proofs.EndLemmas.{bytes_ends, script_ends, accepted_ends, bytes_tell, script_tells, accepted_tells}
@@ -32,8 +33,8 @@ returns-in-Ok-run_accepted-clause-ends g c = λ inputs tells.
     let b = c.in-Ok.ensures.bytes inputs tells in
     let still = c.in-Ok.ensures.stays.fixed tells.1 in
     let same = ap reading_of (c.as_slice.ensures.value ∙ b.2) ∙ reading_cut b.0 ASKED refl in
-    accepted_ends inputs c.args.name.now _ _ _ b.0 c.in-Ok-read_script.script b.1 (sym same ∙ c.in-Ok-read_script.ensures.ok)
-    (c.in-Ok-run_accepted.ensures.ends inputs (still.1 ∙ tells.0, still.0))
+    accepted_ends inputs c.args.name.now (g.S.Sink.taken c.args.out.now) (g.S.Sink.taken c.run_accepted.new.out) None b.0 c.in-Ok-read_script.script b.1
+    (sym same ∙ c.in-Ok-read_script.ensures.ok) (c.in-Ok-run_accepted.ensures.ends inputs (still.1 ∙ tells.0, still.0))
 
 pub returns-clause-ends : goal.returns-clause-ends
 returns-clause-ends g c = λ inputs tells.
@@ -42,8 +43,8 @@ returns-clause-ends g c = λ inputs tells.
     let same = ap reading_of (c.as_slice.ensures.value ∙ b.2) ∙ reading_cut b.0 ASKED refl in
     let Ends : TopFault → Type 0 = λ f. EndsCall inputs c.args.name.now (g.S.Sink.taken c.args.out.now) (Some f) (g.S.Sink.taken c.run_accepted.new.out) in
     subst Ends (sym c.fault_of_run.ensures)
-    (accepted_ends inputs c.args.name.now _ _ _ b.0 c.in-Ok-read_script.script b.1 (sym same ∙ c.in-Ok-read_script.ensures.ok)
-    (c.in-Err-run_accepted.ensures.ends inputs (still.1 ∙ tells.0, still.0)))
+    (accepted_ends inputs c.args.name.now (g.S.Sink.taken c.args.out.now) (g.S.Sink.taken c.run_accepted.new.out) (Some (run_fault c.in-Err-run_accepted.e)) b.0
+    c.in-Ok-read_script.script b.1 (sym same ∙ c.in-Ok-read_script.ensures.ok) (c.in-Err-run_accepted.ensures.ends inputs (still.1 ∙ tells.0, still.0)))
 
 pub returns-in-Err-clause-script : goal.returns-in-Err-clause-script
 returns-in-Err-clause-script g c = λ inputs tells.

@@ -1,5 +1,7 @@
-use Rattle.std.proofs.Common.{Some, None, refl, sym, ◌∙◌}
+use Rattle.std.proofs.Common.{Option, Some, None, refl, sym, subst, ◌∙◌}
 use Rattle.job_words.specs.Faults.{fault_status}
+use Rattle.job_words.specs.declared.fault.TopFault.{TopFault}
+use Rattle.thrill_top.specs.Promise.{EndsCall}
 use Rattle.thrill_top.proofs.EndLemmas.{whole_0, complete_so, ends_named, script_named, status_says}
 use Rattle.thrill_top.proofs.AskLemmas.{called_whole, called_cut}
 use Rattle.thrill_top.proofs.top.thrill_call.Goals as goal
@@ -45,3 +47,10 @@ returns-in-Err-clause-asked g c = λ inputs name script tells named.
     let says = status_says c.in-Err.fault _ _ _ _ _ c.in-Err.ensures.fault in
     called_cut g.N.Shelf inputs c.in-Some.name.now name _ c.args.shelf.now c.run_script.new.shelf _ c.in-Some.ensures named (λ zero. says.some (sym c.end_with-in-Err.ensures.status ∙ zero))
     (λ mine at. c.in-Err.ensures.asked inputs mine tells at) script
+
+pub returns-in-Err-clause-run : goal.returns-in-Err-clause-run
+returns-in-Err-clause-run g c = λ inputs name tells named.
+    let Ends : Option TopFault → Type 0 = λ f. EndsCall inputs name (g.S.Sink.taken c.args.out.now) f (g.S.Sink.taken c.run_script.new.out) in
+    subst Ends (sym c.end_with-in-Err.ensures.fault)
+    (ends_named inputs c.in-Some.name.now name (g.S.Sink.taken c.args.out.now) (Some c.in-Err.fault) (g.S.Sink.taken c.run_script.new.out) _ c.in-Some.ensures named
+    (c.in-Err.ensures.ends inputs tells))
