@@ -1,12 +1,11 @@
 //! What actions write.
-ghost use Rattle.std.specs.Prelude.{◌≡◌, ◌≤◌, [], List, OnOk, IfErr};
+ghost use Rattle.std.specs.Prelude.{◌≡◌, [], List, OnOk};
 ghost use Rattle.row_defs.specs.declared.kind.Kind.{Kind};
 ghost use Rattle.row_defs.specs.Printed.{number_line};
-ghost use Rattle.dia_edge.specs.Sinks.{TookAll};
 ghost use Rattle.lop_chain.specs.Chains.{chain_ops};
 ghost use Rattle.row_feed.specs.Sinks.{texts_of_rows};
 ghost use Rattle.actions.specs.Arriving.{Arrives, rows_arriving};
-ghost use Rattle.actions.specs.Acting.{TellsWrite, CutsOff};
+ghost use Rattle.actions.specs.Acting.{Writes};
 
 use crate::action::ActErr;
 use crate::buffers::Buffers;
@@ -18,10 +17,7 @@ use text_out::put_pieces;
 
 /// A number on a line of its own.
 pub(crate) fn put_number<S: Sink>(n: u64, out: &mut S) -> Result<(), ActErr>
-    ensures ok { OnOk result (TookAll (S.taken out.old) (number_line n) (S.taken out.new)) }
-    ensures cut { IfErr result (λ e. CutsOff (number_line n) e (S.taken out.old) (S.taken out.new)) }
-    ensures told { IfErr result (λ e. TellsWrite e (S.faults out.old) (S.faults out.new)) }
-    ensures counts { S.faults out.old ≤ S.faults out.new }
+    ensures writes { Writes S.Sink out.old out.new (number_line n) result }
 {
     let mut digits = itoa::Buffer::new();
     let number = digits.format(n).as_bytes();
@@ -43,11 +39,8 @@ pub(crate) fn print_rows<R: Wait, S: Sink>(
 ) -> Result<(), ActErr>
     requires rows { (kinds : List Kind) × Arrives (chain_ops chain.old) source.now kinds }
     requires empty { buffers.old.text ≡ [] }
-    ensures ok { OnOk result (TookAll (S.taken out.old) (texts_of_rows (rows_arriving (chain_ops chain.old) source.now)) (S.taken out.new)) }
-    ensures cut { IfErr result (λ e. CutsOff (texts_of_rows (rows_arriving (chain_ops chain.old) source.now)) e (S.taken out.old) (S.taken out.new)) }
+    ensures writes { Writes S.Sink out.old out.new (texts_of_rows (rows_arriving (chain_ops chain.old) source.now)) result }
     ensures empty { OnOk result (buffers.new.text ≡ []) }
-    ensures told { IfErr result (λ e. TellsWrite e (S.faults out.old) (S.faults out.new)) }
-    ensures counts { S.faults out.old ≤ S.faults out.new }
 {
     match print_all(rt, source, chain, &mut buffers.row, &mut buffers.text, out) {
         Ok(()) => Ok(()),

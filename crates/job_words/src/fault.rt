@@ -1,7 +1,6 @@
 //! How a call of the program ends when not everything was done.
-ghost use Rattle.std.specs.Prelude.{◌≡◌, ◌≤◌, OnOk, OnErr, is_some};
-ghost use Rattle.dia_edge.specs.Counts.{HasRisen};
-ghost use Rattle.dia_edge.specs.Sinks.{TookAll, TookPrefix};
+ghost use Rattle.std.specs.Prelude.{◌≡◌, []};
+ghost use Rattle.dia_edge.specs.Sinks.{Puts};
 ghost use Rattle.job_words.specs.Faults.{cause_name, fault_line, fault_status};
 
 use dia_edge::{Failed, Name, Sink};
@@ -97,11 +96,7 @@ fn cause_name(cause: Cause) -> &'static [u8]
 ///
 /// After a failure the sink took some prefix of the line.
 pub fn put_fault<E: Sink>(fault: &TopFault, err: &mut E) -> Result<(), Failed>
-    ensures ok { OnOk result (TookAll (E.taken err.old) (fault_line fault.now) (E.taken err.new)) }
-    ensures failed { OnErr result (TookPrefix (E.taken err.old) (fault_line fault.now) (E.taken err.new)) }
-    ensures rose { OnErr result (HasRisen (E.faults err.old) (E.faults err.new)) }
-    ensures counts { E.faults err.old ≤ E.faults err.new }
-    ensures tells { is_some (E.taken err.new) ≡ is_some (E.taken err.old) }
+    ensures puts { Puts E.taken E.faults err.old err.new (fault_line fault.now) [] result }
 {
     match fault {
         TopFault::Usage => put_pieces(err, &[b"thrill: usage\n"]),

@@ -1,5 +1,5 @@
 -- The rows of sources, one after the other.
-use Rattle.std.proofs.Common.{◌≡◌, ℕ, suc, ◌+◌, ◌-◌, ◌<◌, ◌≤◌, zero, List, [], ◌∷◌, ◌++◌, length, map, Option, Result, Ok, Err, IfErr, OnOk, OnErr, append_assoc, refl, sym, ap, ◌∙◌, subst, arith}
+use Rattle.std.proofs.Common.{◌≡◌, ℕ, suc, ◌+◌, ◌-◌, ◌<◌, ◌≤◌, zero, List, [], ◌∷◌, ◌++◌, length, map, Option, Result, Ok, Err, IfErr, OnOk, append_assoc, refl, sym, ap, ◌∙◌, subst, arith}
 use Rattle.std.specs.List.{range_with_len}
 use Rattle.row_defs.specs.declared.kind.Kind.TheVariants.{Text}
 use Rattle.row_defs.specs.Rows.{Row, kinds_of, number_row}
@@ -7,11 +7,8 @@ use Rattle.row_defs.specs.Pieces.{line_row, line_rows, lines_of}
 use Rattle.row_defs.specs.LocalOps.{LocalOp, rows_through}
 use Rattle.std.proofs.lemmas.List.Concat.{flat_map-append}
 use Rattle.row_defs.specs.Printed.{row_text}
-use Rattle.dia_edge.specs.Counts.{HasRisen}
-use Rattle.dia_edge.specs.Sinks.{TookPrefix}
-use Rattle.dia_edge.specs.Sinks as sinks
-use Rattle.text_out.specs.Carrying.{CarriesOn}
-use Rattle.text_out.proofs.CarryLemmas.{prefix_after, prefix_more}
+use Rattle.dia_edge.specs.Sinks.{Puts}
+use Rattle.text_out.proofs.PutLemmas.{puts_more, puts_less}
 use Rattle.row_feed.specs.Sinks.{texts_of_rows}
 use Rattle.lop_chain.specs.Calls.{TookRows, TookSome, TookAllBut}
 use Rattle.lop_chain.specs.Ops.{rows_from}
@@ -70,32 +67,27 @@ mapped_long f (x ∷ xs) = ap suc (mapped_long f xs)
 -- printing ------------------------------------------------------------------------------------------------------------
 
 -- some rows were printed, and then a prefix of the next
-pub printed_prefix : (a m c : Option (List ℕ)) (w v : List ℕ) (rows prefix : List Row) (next : Row) (back : List Row) → rows ≡ prefix ++ next ∷ back
-    → CarriesOn a w (texts_of_rows prefix) m v → TookPrefix m (v ++ row_text next) c → TookPrefix a (w ++ texts_of_rows rows) c
-printed_prefix a m c w v rows prefix next back parts before refused =
-    let Took : List ℕ → Type 0 = λ t. TookPrefix a (w ++ t) c in
+pub prints_some : {S E : Type 0} (taken : S → Option (List ℕ)) (faults : S → ℕ) (a m c : S) (w v u : List ℕ) (rows prefix : List Row) (next : Row) (back : List Row) (e : E)
+    → rows ≡ prefix ++ next ∷ back → Puts {T = Unit {0}} {E = E} taken faults a m (w ++ texts_of_rows prefix) v (Ok tt)
+    → Puts {T = Unit {0}} taken faults m c (v ++ row_text next) u (Err e) → Puts {T = Unit {0}} taken faults a c (w ++ texts_of_rows rows) u (Err e)
+prints_some {E = E} taken faults a m c w v u rows prefix next back e parts before refused =
+    let Put : List ℕ → Type 0 = λ t. Puts {T = Unit {0}} taken faults a c (w ++ t) u (Err e) in
     let texts : texts_of_rows rows ≡ (texts_of_rows prefix ++ row_text next) ++ texts_of_rows back =
     ap texts_of_rows parts ∙ flat_map-append row_text prefix (next ∷ back) ∙ sym (append_assoc (texts_of_rows prefix) (row_text next) (texts_of_rows back)) in
-    subst Took (sym texts) (prefix_more a c w (texts_of_rows prefix ++ row_text next) (texts_of_rows back)
-    (prefix_after a m c w v (texts_of_rows prefix) (row_text next) before refused))
+    subst Put (sym texts) (puts_less {T = Unit {0}} {D = E} taken faults a c w u u (texts_of_rows prefix ++ row_text next) (texts_of_rows back) e e
+    (puts_more {D = E} taken faults a m c w v u (texts_of_rows prefix) (row_text next) tt (Err e) before refused))
 
-pub risen_after : (a b c : ℕ) → a ≤ b → HasRisen b c → HasRisen a c
-risen_after a b c low h = omega arith
+-- how a feed that ended so printed
+pub fed_prints : {S E : Type 0} (taken : S → Option (List ℕ)) (faults : S → ℕ) (a c : S) (w u : List ℕ) (rows : List Row) (r : Result (Unit {0}) E)
+    → OnOk r (Puts {T = Unit {0}} {E = E} taken faults a c (w ++ texts_of_rows rows) u (Ok tt)) → IfErr r (λ e. Puts {T = Unit {0}} taken faults a c (w ++ texts_of_rows rows) u (Err e))
+    → Puts taken faults a c (w ++ texts_of_rows rows) u r
+fed_prints taken faults a c w u rows (Ok tt) p q = p
+fed_prints taken faults a c w u rows (Err e) p q = q
 
-pub OnErr-some : {T E : Type 0} (r : Result T E) (P : E → Type 0) (Q : Type 0) → ((e : E) → P e → Q) → IfErr r P → OnErr r Q
-OnErr-some (Ok t) P Q f p = p
-OnErr-some (Err e) P Q f p = f e p
+pub IfErr-map : {T E : Type 0} (r : Result T E) (P Q : E → Type 0) → ((e : E) → P e → Q e) → IfErr r P → IfErr r Q
+IfErr-map (Ok t) P Q f p = p
+IfErr-map (Err e) P Q f p = f e p
 
--- what a loan held is what its lender has
-module _ {A T E : Type 0} (r : Result T E) (taken : A → Option (List ℕ)) (faults : A → ℕ) where
-  pub lent_ok : (before : Option (List ℕ)) (text : List ℕ) (x y : A) → OnOk r (sinks.TookAll before text (taken x)) → y ≡ x → OnOk r (sinks.TookAll before text (taken y))
-  lent_ok before text x y h is = let P : A → Type 0 = λ a. OnOk r (sinks.TookAll before text (taken a)) in subst P (sym is) h
-
-  pub lent_prefix : (before : Option (List ℕ)) (text : List ℕ) (x y : A) → OnErr r (TookPrefix before text (taken x)) → y ≡ x → OnErr r (TookPrefix before text (taken y))
-  lent_prefix before text x y h is = let P : A → Type 0 = λ a. OnErr r (TookPrefix before text (taken a)) in subst P (sym is) h
-
-  pub lent_rose : (n : ℕ) (x y : A) → OnErr r (HasRisen n (faults x)) → y ≡ x → OnErr r (HasRisen n (faults y))
-  lent_rose n x y h is = let P : A → Type 0 = λ a. OnErr r (HasRisen n (faults a)) in subst P (sym is) h
-
-  pub lent_counts : (n : ℕ) (x y : A) → n ≤ faults x → y ≡ x → n ≤ faults y
-  lent_counts n x y h is = let P : A → Type 0 = λ a. n ≤ faults a in subst P (sym is) h
+pub took_ok : {S D R V : Type 0} (g : Ghosts S D R) (s t : S) (d b : D) (rows : List Row) (r : Result V R) → OnOk r (TookRows g s d rows t b) → OnOk r (g.took s rows t)
+took_ok g s t d b rows (Ok v) h = h.took
+took_ok g s t d b rows (Err e) h = tt

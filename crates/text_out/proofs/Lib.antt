@@ -1,2 +1,2 @@
-pub mod CarryLemmas
+pub mod PutLemmas
 pub mod ColumnLemmas

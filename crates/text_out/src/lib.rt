@@ -1,7 +1,7 @@
 //! Texts: what is written gathers in a buffer and goes to a sink piece by piece.
 //!
 //! The layers above rely on two facts: what a sink took and what waits in the buffer are together what was pushed; and
-//! after a failure the sink took some prefix of it. The words stand in `specs/Carrying`.
+//! after a failure the sink took some prefix of it. `Puts` of `dia_edge` says what a put comes to.
 #![tactic(auto)]
 
 mod out_buffer;

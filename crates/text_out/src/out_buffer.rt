@@ -1,8 +1,6 @@
 //! A buffer before a sink.
-ghost use Rattle.std.specs.Prelude.{◌≡◌, ◌≤◌, ◌+◌, ◌++◌, [], length, IfOk, OnOk, OnErr, is_some};
-ghost use Rattle.dia_edge.specs.Counts.{HasRisen};
-ghost use Rattle.dia_edge.specs.Sinks.{TookAll, TookPrefix};
-ghost use Rattle.text_out.specs.Carrying.{CarriesOn};
+ghost use Rattle.std.specs.Prelude.{◌≡◌, ◌≤◌, ◌+◌, ◌++◌, [], length, IfOk, OnOk};
+ghost use Rattle.dia_edge.specs.Sinks.{Puts};
 
 use dia_edge::{Failed, NoMemory, Sink};
 use dia_item::append;
@@ -43,12 +41,8 @@ impl OutBuffer {
 
     /// Puts what waits.
     pub fn flush<S: Sink>(&mut self, out: &mut S) -> Result<(), Failed>
-        ensures ok { OnOk result (TookAll (S.taken out.old) self.old (S.taken out.new)) }
+        ensures puts { Puts S.taken S.faults out.old out.new self.old self.new result }
         ensures empty { OnOk result (self.new ≡ []) }
-        ensures failed { OnErr result (TookPrefix (S.taken out.old) self.old (S.taken out.new)) }
-        ensures rose { OnErr result (HasRisen (S.faults out.old) (S.faults out.new)) }
-        ensures counts { S.faults out.old ≤ S.faults out.new }
-        ensures tells { is_some (S.taken out.new) ≡ is_some (S.taken out.old) }
     {
         if self.waiting.is_empty() {
             return Ok(());
@@ -63,11 +57,7 @@ impl OutBuffer {
     #[inline(never)]
     fn push_past<S: Sink>(&mut self, out: &mut S, bytes: &[u8]) -> Result<(), Failed>
         ensures most { OnOk result (length self.new ≤ MOST_WAITING) }
-        ensures ok { OnOk result (CarriesOn (S.taken out.old) self.old bytes.now (S.taken out.new) self.new) }
-        ensures failed { OnErr result (TookPrefix (S.taken out.old) (self.old ++ bytes.now) (S.taken out.new)) }
-        ensures rose { OnErr result (HasRisen (S.faults out.old) (S.faults out.new)) }
-        ensures counts { S.faults out.old ≤ S.faults out.new }
-        ensures tells { is_some (S.taken out.new) ≡ is_some (S.taken out.old) }
+        ensures puts { Puts S.taken S.faults out.old out.new (self.old ++ bytes.now) self.new result }
     {
         self.flush(out)?;
         if bytes.len() >= MOST_WAITING {
@@ -82,11 +72,7 @@ impl OutBuffer {
     pub fn push<S: Sink>(&mut self, out: &mut S, bytes: &[u8]) -> Result<(), Failed>
         ensures waits { length self.old + length bytes.now ≤ MOST_WAITING → (self.new ≡ self.old ++ bytes.now) × (out.new ≡ out.old) }
         ensures most { OnOk result (length self.new ≤ MOST_WAITING) }
-        ensures ok { OnOk result (CarriesOn (S.taken out.old) self.old bytes.now (S.taken out.new) self.new) }
-        ensures failed { OnErr result (TookPrefix (S.taken out.old) (self.old ++ bytes.now) (S.taken out.new)) }
-        ensures rose { OnErr result (HasRisen (S.faults out.old) (S.faults out.new)) }
-        ensures counts { S.faults out.old ≤ S.faults out.new }
-        ensures tells { is_some (S.taken out.new) ≡ is_some (S.taken out.old) }
+        ensures puts { Puts S.taken S.faults out.old out.new (self.old ++ bytes.now) self.new result }
     {
         if bytes.len() <= MOST_WAITING - self.waiting.len() {
             append(&mut self.waiting, bytes);

@@ -1,8 +1,7 @@
 //! Several pieces, one after the other.
-ghost use Rattle.std.specs.Prelude.{◌≡◌, ◌≤◌, OnOk, OnErr, IfSome, is_some, length, take};
+ghost use Rattle.std.specs.Prelude.{◌≡◌, ◌≤◌, [], IfSome, length, take};
 ghost use Rattle.std.specs.List.{flat_map};
-ghost use Rattle.dia_edge.specs.Counts.{HasRisen};
-ghost use Rattle.dia_edge.specs.Sinks.{TookAll, TookPrefix};
+ghost use Rattle.dia_edge.specs.Sinks.{Puts};
 
 use dia_edge::{Failed, Sink};
 
@@ -12,11 +11,7 @@ const GATHERED: usize = 256;
 /// Puts pieces one after the other, in one write where they have at most 256 bytes together, so that what several
 /// programs write to one terminal doesn't mix. After a failure the sink took some prefix of them.
 pub fn put_pieces<S: Sink>(out: &mut S, pieces: &[&[u8]]) -> Result<(), Failed>
-    ensures ok { OnOk result (TookAll (S.taken out.old) (flat_map (λ p. p.now) pieces.now) (S.taken out.new)) }
-    ensures failed { OnErr result (TookPrefix (S.taken out.old) (flat_map (λ p. p.now) pieces.now) (S.taken out.new)) }
-    ensures rose { OnErr result (HasRisen (S.faults out.old) (S.faults out.new)) }
-    ensures counts { S.faults out.old ≤ S.faults out.new }
-    ensures tells { is_some (S.taken out.new) ≡ is_some (S.taken out.old) }
+    ensures puts { Puts S.taken S.faults out.old out.new (flat_map (λ p. p.now) pieces.now) [] result }
 {
     let mut line = [0u8; GATHERED];
     match gather(pieces, &mut line) {
@@ -46,17 +41,13 @@ fn gather(pieces: &[&[u8]], into: &mut [u8]) -> Option<usize>
 
 /// Puts each piece in a write of its own.
 fn put_each<S: Sink>(out: &mut S, pieces: &[&[u8]]) -> Result<(), Failed>
-    ensures ok { OnOk result (TookAll (S.taken out.old) (flat_map (λ p. p.now) pieces.now) (S.taken out.new)) }
-    ensures failed { OnErr result (TookPrefix (S.taken out.old) (flat_map (λ p. p.now) pieces.now) (S.taken out.new)) }
-    ensures rose { OnErr result (HasRisen (S.faults out.old) (S.faults out.new)) }
-    ensures counts { S.faults out.old ≤ S.faults out.new }
-    ensures tells { is_some (S.taken out.new) ≡ is_some (S.taken out.old) }
+    ensures puts { Puts S.taken S.faults out.old out.new (flat_map (λ p. p.now) pieces.now) [] result }
 {
     match pieces.split_first() {
         None => Ok(()),
-        Some((piece, rest)) => match out.put(piece) {
-            Ok(()) => put_each(out, rest),
-            Err(e) => Err(e),
-        },
+        Some((piece, rest)) => {
+            out.put(piece)?;
+            put_each(out, rest)
+        }
     }
 }

@@ -1,23 +1,30 @@
-use Rattle.std.proofs.Common.{List, ℕ, sym, subst}
+use Rattle.std.proofs.Common.{◌≡◌, [], List, ℕ, Result, Err, rules, subst, sym}
 use Rattle.std.specs.Borrow.{Bor}
 use Rattle.std.specs.List.{flat_map}
-use Rattle.dia_edge.specs.Sinks.{TookPrefix}
-use Rattle.text_out.proofs.CarryLemmas.{OnErr-map, prefix_longer, prefix_then}
+use Rattle.dia_edge.specs.declared.refusals.Failed.{Failed}
+use Rattle.dia_edge.specs.Sinks.{Puts}
+use Rattle.dia_edge.proofs.SinkLemmas.{puts_then, puts_failed}
 use Rattle.text_out.proofs.pieces.+put_each.Goals as goal
 
-pub returns-in-Ok-clause-failed : goal.returns-in-Ok-clause-failed
-returns-in-Ok-clause-failed g t c =
-    let before = g.S.Sink.taken c.args.out.now in
-    let after = g.S.Sink.taken c.put_each.new.out in
-    let Took : List (Bor (List ℕ)) → Type 0 = λ ps. TookPrefix before (flat_map (λ (p : Bor (List ℕ)). p.now) ps) after in
-    OnErr-map _ _ _ (λ took. subst Took (sym c.in-Some.ensures.cases.0)
-    (prefix_then before (g.S.Sink.taken c.put.new.self) after c.in-Some.piece.now.now (flat_map (λ (p : Bor (List ℕ)). p.now) c.in-Some.rest.now) c.in-Ok.ensures.ok took))
-    c.put_each.ensures.failed
+pub returns-in_err-put-in-Some : goal.returns-in_err-put-in-Some
+returns-in_err-put-in-Some g t c =
+    let taken = g.S.Sink.taken in
+    let faults = g.S.Sink.faults in
+    let e = c.in_err-put-in-Some.field-0.0 in
+    let same : c.from_residual.result ≡ Err e = search rules in
+    let Is : List (Bor (List ℕ)) → Type 0 = λ ps. Puts taken faults c.args.out.now c.put.new.self (flat_map (λ (p : Bor (List ℕ)). p.now) ps) [] (Err e) in
+    rw same (record {
+      puts = subst Is (sym c.in-Some.ensures.cases.0)
+          (puts_failed taken faults c.args.out.now c.put.new.self c.in-Some.piece.now.now [] (flat_map (λ (p : Bor (List ℕ)). p.now) c.in-Some.rest.now) [] _ e c.in_err-put-in-Some.ensures.puts);
+    })
 
-pub returns-in-Err-clause-failed : goal.returns-in-Err-clause-failed
-returns-in-Err-clause-failed g t c =
-    let before = g.S.Sink.taken c.args.out.now in
-    let after = g.S.Sink.taken c.put.new.self in
-    let Took : List (Bor (List ℕ)) → Type 0 = λ ps. TookPrefix before (flat_map (λ (p : Bor (List ℕ)). p.now) ps) after in
-    subst Took (sym c.in-Some.ensures.cases.0)
-    (prefix_longer before after c.in-Some.piece.now.now (flat_map (λ (p : Bor (List ℕ)). p.now) c.in-Some.rest.now) c.in-Err.ensures.failed)
+pub returns-in_ok-put-in-Some : goal.returns-in_ok-put-in-Some
+returns-in_ok-put-in-Some g t c =
+    let taken = g.S.Sink.taken in
+    let faults = g.S.Sink.faults in
+    let Is : List (Bor (List ℕ)) → Type 0 = λ ps. Puts taken faults c.args.out.now c.put_each.new.out (flat_map (λ (p : Bor (List ℕ)). p.now) ps) [] c.put_each.result in
+    record {
+      puts = subst Is (sym c.in-Some.ensures.cases.0)
+          (puts_then taken faults c.args.out.now c.put.new.self c.put_each.new.out c.in-Some.piece.now.now [] (flat_map (λ (p : Bor (List ℕ)). p.now) c.in-Some.rest.now) [] _ c.put_each.result
+          c.in_ok-put-in-Some.ensures.puts c.put_each.ensures.puts);
+    }
