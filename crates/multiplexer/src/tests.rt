@@ -47,9 +47,10 @@ fn packets_come_in_their_order(rt: HostRuntime) -> Result<(), Fail> {
         Ok(opened) => opened,
         Err(refusal) => return Err(refusal.into()),
     };
-    let Some((pass, permits)) = shares.pop() else {
+    let Some(share) = shares.pop() else {
         unreachable!()
     };
+    let (pass, permits) = share;
     let mut hand = Hand::new(&pool, pass, permits);
     let outcome = exchange_three(&rt, alloc, &mut hand);
     let (pass, _) = hand.end();
@@ -74,9 +75,10 @@ fn packets_of_four_threads_come_once_and_in_order(rt: HostRuntime) -> Result<(),
         Ok(opened) => opened,
         Err(refusal) => return Err(refusal.into()),
     };
-    let Some((pass, _)) = shares.pop() else {
+    let Some(share) = shares.pop() else {
         unreachable!()
     };
+    let (pass, _) = share;
     let outcome = exchange(&rt, alloc, &pool, shares, 40_000);
     let _disk = end(&rt, pool, pass, passes);
     let boxes = outcome?;
