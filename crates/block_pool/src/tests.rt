@@ -34,8 +34,8 @@ fn open_one(
     limit: u64,
     block: u32,
 ) -> Result<(Pool<MemDisk>, (Pass, Permits)), OpenErr>
-    requires limit { limit ≤ 2 ^ 40 }
-    requires block { (4096 ≤ block) × (block ≤ 1048576) }
+    requires limit { limit ≤ MOST_LIMIT }
+    requires block { (LEAST_BLOCK ≤ block) × (block ≤ MOST_BLOCK) }
     ensures ready { IfOk result (λ opened. IsReady (new_pool opened.0 (limit / block) block) opened.1) }
 {
     let disk = MemDisk::new(alloc, Vec::new(alloc));
@@ -63,7 +63,7 @@ fn end<R: Wait>(rt: &R, pool: Pool<MemDisk>, pass: Pass, passes: Vec<Pass>) -> M
 /// A new block that has this number.
 fn seal_number<R: Wait>(rt: &R, hand: &mut Hand<'_, MemDisk>, n: u64) -> Option<BlockRef>
     requires permit { 0 < hand.old.permits }
-    requires block { 4096 ≤ hand.old.pool.opening.block }
+    requires block { LEAST_BLOCK ≤ hand.old.pool.opening.block }
     ensures same { (hand.new.pool ≡ hand.old.pool) × (hand.new.permits ≡ hand.old.permits) }
     ensures block { IfSome result (λ block. block.pool ≡ hand.old.pool) }
 {
@@ -225,8 +225,8 @@ fn work_by_four<R: Threads + Wait + Sync>(
 
 /// Why no pool for one worker opens, if none does.
 fn refusal<R: Wait>(rt: &R, alloc: Global, limit: u64, block: u32) -> Option<OpenErr>
-    requires limit { limit ≤ 2 ^ 40 }
-    requires block { (4096 ≤ block) × (block ≤ 1048576) }
+    requires limit { limit ≤ MOST_LIMIT }
+    requires block { (LEAST_BLOCK ≤ block) × (block ≤ MOST_BLOCK) }
 {
     let Ok(passes) = Vec::with_capacity(alloc, 1) else {
         return Some(OpenErr::NoMemory);
@@ -289,7 +289,7 @@ fn spill<'p, R: Wait>(
     room: Vec<BlockRef>,
 ) -> Option<Vec<BlockRef>>
     requires permit { 0 < hand.old.permits }
-    requires block { 4096 ≤ hand.old.pool.opening.block }
+    requires block { LEAST_BLOCK ≤ hand.old.pool.opening.block }
     requires room { (vec_len room ≡ 0) × (40 ≤ vec_capacity room) }
     ensures same { (hand.new.pool ≡ hand.old.pool) × (hand.new.permits ≡ hand.old.permits) }
     ensures own { IfSome result (λ blocks. AreOfPool hand.old.pool blocks.items) }
