@@ -1,0 +1,5 @@
+pub mod Putting
+pub mod Counting
+pub mod OneRow
+pub mod Taking
+pub mod Sending
