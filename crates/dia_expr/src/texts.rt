@@ -101,7 +101,7 @@ fn with_digit(n: u64, b: u8) -> Option<u64>
 }
 
 /// The number that a text spells: 1 to 20 decimal digits below 2^64.
-pub(crate) fn number_spelled(text: &[u8]) -> Option<u64>
+pub fn number_spelled(text: &[u8]) -> Option<u64>
     ensures { result ≡ number_spelled text.now }
 {
     if text.is_empty() || text.len() > 20 {

@@ -1,7 +1,6 @@
 pub mod Printables
 pub mod PlaceLemmas
 pub mod Counting
-pub mod Numerals
 pub mod LineLemmas
 pub mod AcceptedLemmas
 pub mod FindingLemmas
