@@ -15,7 +15,8 @@ use dia_edge::NoMemory;
 use dia_item::RowBuf;
 use lop_chain::{Chain, ScriptOp};
 use row_defs::limits::MOST_ROWS;
-use row_feed::{Counter, Extent, Source, Summer, TooManyRows, extent_of, feed};
+use row_feed::{Counter, Source, Summer, TooManyRows, extent_of, feed};
+use row_growth::Extent;
 use std::alloc::Global;
 use std::sync::Wait;
 

@@ -55,15 +55,6 @@ next_number i n less =
     let e : n - i ≡ suc (n - (i + 1)) = omega arith in
     ap (λ (k : ℕ). map number_row (range_with_len i k)) e
 
--- how many there are
-pub numbers_long : (a n : ℕ) → length (range_with_len a n) ≡ n
-numbers_long a zero = refl
-numbers_long a (suc n) = ap suc (numbers_long (a + 1) n)
-
-pub mapped_long : {A B : Type 0} (f : A → B) (xs : List A) → length (map f xs) ≡ length xs
-mapped_long f [] = refl
-mapped_long f (x ∷ xs) = ap suc (mapped_long f xs)
-
 -- printing ------------------------------------------------------------------------------------------------------------
 
 -- some rows were printed, and then a prefix of the next

@@ -1,2 +1,2 @@
 mod FeedLemmas
-mod GrowthLemmas
+mod ShortLemmas

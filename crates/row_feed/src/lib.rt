@@ -2,8 +2,7 @@
 //!
 //! The layer above relies on `feed`, which pushes all rows of a source through a chain into a sink, in order, or stops
 //! at the sink's own refusal; on the sinks, whose `took` says what they hold of the rows; on `print_all`, which prints
-//! the rows; and on `extent_of`, which says how many are made, or bounds it. The words stand in `specs/`: Sources, Sinks,
-//! Growth.
+//! the rows; and on `extent_of`, which says how many are made, or bounds it. The words stand in `specs/`: Sources, Sinks.
 #![tactic(auto)]
 
 mod counter;
@@ -15,7 +14,7 @@ mod summer;
 
 pub use counter::{Counter, TooManyRows};
 pub use feeding::feed;
-pub use growing::{Extent, extent_of};
+pub use growing::extent_of;
 pub use printer::{Printer, print_all};
 pub use source::Source;
 pub use summer::Summer;

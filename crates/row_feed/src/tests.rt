@@ -8,6 +8,7 @@ use super::*;
 use dia_edge::NoMemory;
 use dia_item::RowBuf;
 use lop_chain::{Chain, ScriptOp};
+use row_growth::Extent;
 use std::alloc::Global;
 use std::test::Fail;
 

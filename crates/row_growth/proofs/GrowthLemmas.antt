@@ -4,34 +4,17 @@ use Rattle.std.proofs.lemmas.Bool.{ltb-true, ltb-false, leb-true, and_parts}
 use Rattle.std.proofs.Math.Dec.{ltb}
 use Rattle.std.proofs.Math.Nat.{mul-le-mul_right}
 use Rattle.std.specs.List.{range_with_len, flat_map, AllByRecursion, list_all}
-use Rattle.std.proofs.lemmas.List.{length-drop}
-use Rattle.row_defs.specs.Rows.{Cell, int, text, Row, Fits, number_row}
+use Rattle.std.proofs.lemmas.List.{length-drop, length-map}
+use Rattle.std.proofs.lemmas.List.FromFn.{length-map-range_with_len}
+use Rattle.row_defs.specs.Rows.{Cell, int, text, Row}
 use Rattle.row_defs.specs.Limits.{longest_text}
 use Rattle.row_defs.specs.Texts.{is_blank, ended_word, words_after, words_in_text}
 use Rattle.row_defs.specs.Values.{Expr, column, number, literal, math, is_zero, compare, choose, len, num, spelled, part, Part, prefix, suffix, nth_word, number_in, bytes_in, value_of, part_of}
 use Rattle.row_defs.specs.LocalOps.{LocalOp, map_op, filter_op, words_op, spread_op, raised, with_word, rows_through}
-use Rattle.dia_lines.specs.Fitting.{AllFit}
 use Rattle.lop_chain.specs.Ops.{rows_from}
-use Rattle.row_feed.specs.Growth.{IsShort, AreShort, is_plain, growth, are_even}
-use Rattle.row_feed.proofs.FeedLemmas.{numbers_long, mapped_long}
+use Rattle.row_growth.specs.Growth.{IsShort, AreShort, is_plain, growth, are_even}
 
 -- short rows ----------------------------------------------------------------------------------------------------------
-
-fits_short : (cell : Cell) → Fits cell → IsShort cell
-fits_short (int n) h = tt
-fits_short (text t) h = h
-
-row_short : (row : Row) → AllByRecursion Fits row → AreShort row
-row_short [] h = tt
-row_short (cell ∷ row) h = (fits_short cell h.0, row_short row h.1)
-
-pub rows_short : (rows : List Row) → AllFit rows → AllByRecursion AreShort rows
-rows_short [] h = tt
-rows_short (row ∷ rows) h = (row_short row h.0, rows_short rows h.1)
-
-pub numbers_short : (ns : List ℕ) → AllByRecursion AreShort (map number_row ns)
-numbers_short [] = tt
-numbers_short (n ∷ ns) = ((tt, tt), numbers_short ns)
 
 set_short : (row : Row) (c : ℕ) (cell : Cell) → AreShort row → IsShort cell → AreShort (slice_set row c cell)
 set_short [] c cell h k = tt
@@ -186,7 +169,7 @@ made_few (words_op c ∷ ops) true row h small =
     let g = growth true ops in
     let low : g < 2 ^ 64 - 1 = omega (arith, small) in
     let few = few_of_each (Known true) (rows_through ops) g rows (λ r k. made_few ops true r k low) (worded_known true row c words h (λ t. words_short longest_text [] bytes (omega (arith, short)))) in
-    let count : length rows ≤ 32768 = omega (arith, mapped_long (with_word row c) words, words_few [] bytes, short) in
+    let count : length rows ≤ 32768 = omega (arith, length-map words (with_word row c), words_few [] bytes, short) in
     omega (arith, few, mul-le-mul_right g count)
 made_few (words_op c ∷ ops) false row h small =
     let words = words_in_text (bytes_in (value_of (column c) row)) in
@@ -202,7 +185,7 @@ made_few (spread_op c (suc n) ∷ ops) known row h small =
     let rows = map (raised row c) (range_with_len 0 (suc n)) in
     let low : g < 2 ^ 64 - 1 = omega (arith, small, step) in
     let few = few_of_each (Known known) (rows_through ops) g rows (λ r k. made_few ops known r k low) (raised_known known row c (range_with_len 0 (suc n)) h) in
-    let count : length rows ≡ suc n = mapped_long (raised row c) (range_with_len 0 (suc n)) ∙ numbers_long 0 (suc n) in
+    let count : length rows ≡ suc n = length-map-range_with_len (raised row c) 0 (suc n) in
     omega (arith, few, ap (λ (k : ℕ). k * g) count, mul_comm (suc n) g)
 
 -- all rows that are made of short ones
@@ -234,7 +217,7 @@ made_even (spread_op c count ∷ ops) known row even =
     let g = growth known ops in
     let rows = map (raised row c) (range_with_len 0 count) in
     let all = many_of_each (rows_through ops) g rows (λ r. made_even ops known r even) in
-    let long : length rows ≡ count = mapped_long (raised row c) (range_with_len 0 count) ∙ numbers_long 0 count in
+    let long : length rows ≡ count = length-map-range_with_len (raised row c) 0 count in
     all ∙ ap (λ (k : ℕ). k * g) long ∙ mul_comm count g
 
 -- all rows that are made
@@ -242,7 +225,7 @@ pub many_made : (ops : List LocalOp) (rows : List Row) → are_even ops ≡ true
 many_made ops rows even = many_of_each (rows_through ops) (growth true ops) rows (λ r. made_even ops true r even)
 
 -- products that stand still at the largest number
-still_left : (a b : ℕ) → min (min a (2 ^ 64 - 1) * b) (2 ^ 64 - 1) ≡ min (a * b) (2 ^ 64 - 1)
+pub still_left : (a b : ℕ) → min (min a (2 ^ 64 - 1) * b) (2 ^ 64 - 1) ≡ min (a * b) (2 ^ 64 - 1)
 still_left a zero = omega arith
 still_left a (suc b) =
     let most = 2 ^ 64 - 1 in

@@ -1,5 +1,5 @@
 use Rattle.std.proofs.Common.{length}
-use Rattle.row_feed.proofs.growing.+growth.Given as goal
+use Rattle.row_growth.proofs.growing.+growth.Given as goal
 
 abbrev pub decreases-growth : goal.decreases-growth
 decreases-growth l = length l.ops.now

@@ -5,8 +5,8 @@ use Rattle.row_defs.specs.Values.{Expr, literal, choose, spelled, part}
 use Rattle.row_defs.specs.Rows.{Cell, int, text, Row}
 use Rattle.row_defs.specs.Limits.{longest_text}
 use Rattle.row_defs.specs.LocalOps.{LocalOp, map_op, filter_op, words_op, spread_op}
-use Rattle.row_feed.specs.declared.growing.Extent.{Extent}
-use Rattle.row_feed.specs.declared.growing.Extent.TheVariants.{Exactly, AtMost}
+use Rattle.row_growth.specs.declared.growing.Extent.{Extent}
+use Rattle.row_growth.specs.declared.growing.Extent.TheVariants.{Exactly, AtMost}
 
 -- a cell whose text, if it is one, is no longer than a text may be
 abbrev pub IsShort : Cell → Type 0

@@ -1,5 +1,5 @@
 use Rattle.std.proofs.Common.{length}
-use Rattle.row_feed.proofs.growing.+are_even.Given as goal
+use Rattle.row_growth.proofs.growing.+are_even.Given as goal
 
 abbrev pub decreases-are_even : goal.decreases-are_even
 decreases-are_even l = length l.ops.now

@@ -1,5 +1,5 @@
 use Rattle.std.proofs.Common.{length}
-use Rattle.row_feed.proofs.growing.+are_plain.Given as goal
+use Rattle.row_growth.proofs.growing.+are_plain.Given as goal
 
 abbrev pub decreases-are_plain : goal.decreases-are_plain
 decreases-are_plain l = length l.exprs.now
