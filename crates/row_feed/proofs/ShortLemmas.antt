@@ -2,8 +2,8 @@
 use Rattle.std.proofs.Common.{ℕ, List, [], ◌∷◌, map}
 use Rattle.std.specs.List.{AllByRecursion}
 use Rattle.row_defs.specs.Rows.{number_row}
-use Rattle.row_growth.specs.Growth.{AreShort}
+use Rattle.row_growth.specs.Growth.{AreWithin}
 
-pub numbers_short : (ns : List ℕ) → AllByRecursion AreShort (map number_row ns)
-numbers_short [] = tt
-numbers_short (n ∷ ns) = ((tt, tt), numbers_short ns)
+pub numbers_short : (longest : ℕ) (ns : List ℕ) → AllByRecursion (AreWithin longest) (map number_row ns)
+numbers_short longest [] = tt
+numbers_short longest (n ∷ ns) = ((tt, tt), numbers_short longest ns)

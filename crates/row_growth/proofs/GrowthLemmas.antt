@@ -1,140 +1,113 @@
 -- How many rows local lines make.
-use Rattle.std.proofs.Common.{◌≡◌, ℕ, zero, suc, ◌+◌, ◌-◌, ◌*◌, ◌<◌, ◌≤◌, ◌^◌, ◌==◌, min, Bool, true, false, ◌&&◌, if◌then◌else◌, List, [], ◌∷◌, ◌++◌, length, map, slice_set, slice_index_or, refl, sym, ap, subst, ◌∙◌, arith, length-append, length-take, suc-mul, mul-suc, mul_comm}
-use Rattle.std.proofs.lemmas.Bool.{ltb-true, ltb-false, leb-true, and_parts}
+use Rattle.std.proofs.Common.{◌≡◌, ℕ, zero, suc, ◌+◌, ◌-◌, ◌*◌, ◌<◌, ◌≤◌, ◌^◌, ◌==◌, min, max, Bool, true, false, if◌then◌else◌, List, [], ◌∷◌, ◌++◌, length, map, take, drop, replicate, slice_set, slice_index_or, refl, sym, ap, ◌∙◌, arith, length-append, suc-mul, mul-suc, mul_comm}
+use Rattle.std.proofs.lemmas.Bool.{ltb-true, ltb-false}
 use Rattle.std.proofs.Math.Dec.{ltb}
 use Rattle.std.proofs.Math.Nat.{mul-le-mul_right}
-use Rattle.std.specs.List.{range_with_len, flat_map, AllByRecursion, list_all}
-use Rattle.std.proofs.lemmas.List.{length-drop, length-map}
+use Rattle.std.specs.List.{range_with_len, flat_map, AllByRecursion}
+use Rattle.std.proofs.lemmas.List.{length-map}
 use Rattle.std.proofs.lemmas.List.FromFn.{length-map-range_with_len}
+use Rattle.std.specs.Fmt.{decimal}
 use Rattle.row_defs.specs.Rows.{Cell, int, text, Row}
-use Rattle.row_defs.specs.Limits.{longest_text}
-use Rattle.row_defs.specs.Texts.{is_blank, ended_word, words_after, words_in_text}
+use Rattle.row_defs.specs.Limits.{most_columns}
+use Rattle.row_defs.specs.Texts.{words_in_text}
 use Rattle.row_defs.specs.Values.{Expr, column, number, literal, math, is_zero, compare, choose, len, num, spelled, part, Part, prefix, suffix, nth_word, number_in, bytes_in, value_of, part_of}
 use Rattle.row_defs.specs.LocalOps.{LocalOp, map_op, filter_op, words_op, spread_op, raised, with_word, rows_through}
+use Rattle.dia_expr.specs.Runs.{AreNoBlanks}
 use Rattle.lop_chain.specs.Ops.{rows_from}
-use Rattle.row_growth.specs.Growth.{IsShort, AreShort, is_plain, growth, are_even}
+use Rattle.row_growth.specs.Growth.{IsWithin, AreWithin, most_words, untold, words_at, words_of_part, words_of, words_of_each, words_within, growth, are_even}
+use Rattle.row_growth.proofs.WordCounts.{no_words, words_few, first_fewer, last_fewer, one_word, words_whole, decimal_whole}
 
--- short rows ----------------------------------------------------------------------------------------------------------
+-- bounds --------------------------------------------------------------------------------------------------------------
 
-set_short : (row : Row) (c : ℕ) (cell : Cell) → AreShort row → IsShort cell → AreShort (slice_set row c cell)
-set_short [] c cell h k = tt
-set_short (x ∷ row) zero cell h k = (k, h.1)
-set_short (x ∷ row) (suc c) cell h k = (h.0, set_short row c cell h.1 k)
+-- its text has at most so many words, where that says something
+abbrev HasFew : ℕ → Cell → Type 0
+HasFew n cell = n < untold → length (words_in_text (bytes_in cell)) ≤ n
 
-cell_short : (cell : Cell) → IsShort cell → length (bytes_in cell) ≤ longest_text
-cell_short (int n) h = omega arith
-cell_short (text t) h = h
+abbrev HaveFew : List ℕ → Row → Type 0
+HaveFew [] row = Unit {0}
+HaveFew (n ∷ bounds) [] = Unit {0}
+HaveFew (n ∷ bounds) (cell ∷ row) = HasFew n cell × HaveFew bounds row
+
+number_few : (n k : ℕ) → HasFew n (int k)
+number_few n k small = omega (arith, no_words)
+
+-- of a cell that is a number
+textless : (cell : Cell) → bytes_in cell ≡ [] → HasFew 0 cell
+textless cell is small = rw is (omega (arith, no_words))
+
+cell_few : (longest : ℕ) (cell : Cell) → IsWithin longest cell → HasFew (most_words longest) cell
+cell_few longest (int k) h = number_few (most_words longest) k
+cell_few longest (text t) h = λ small. omega (arith, words_few t, h)
+
+row_few : (k longest : ℕ) (row : Row) → AreWithin longest row → HaveFew (replicate k (most_words longest)) row
+row_few zero longest row h = tt
+row_few (suc k) longest [] h = tt
+row_few (suc k) longest (cell ∷ row) h = (cell_few longest cell h.0, row_few k longest row h.1)
+
+column_few : (bounds : List ℕ) (row : Row) (c : ℕ) → HaveFew bounds row → HasFew (words_at bounds c) (slice_index_or row c (int 0))
+column_few [] row c h = λ small. absurd (omega (arith, small))
+column_few (n ∷ bounds) [] c h = number_few (words_at (n ∷ bounds) c) 0
+column_few (n ∷ bounds) (cell ∷ row) zero h = h.0
+column_few (n ∷ bounds) (cell ∷ row) (suc c) h = column_few bounds row c h.1
+
+-- with another cell in a column's place, and its bound
+set_few : (bounds : List ℕ) (row : Row) (c n : ℕ) (cell : Cell) → HaveFew bounds row → HasFew n cell → HaveFew (slice_set bounds c n) (slice_set row c cell)
+set_few [] row c n cell h k = tt
+set_few (m ∷ bounds) [] zero n cell h k = tt
+set_few (m ∷ bounds) [] (suc c) n cell h k = tt
+set_few (m ∷ bounds) (x ∷ row) zero n cell h k = (k, h.1)
+set_few (m ∷ bounds) (x ∷ row) (suc c) n cell h k = (h.0, set_few bounds row c n cell h.1 k)
+
+-- with a number there
+raise_few : (bounds : List ℕ) (row : Row) (c k : ℕ) → HaveFew bounds row → HaveFew bounds (slice_set row c (int k))
+raise_few [] row c k h = tt
+raise_few (m ∷ bounds) [] c k h = tt
+raise_few (m ∷ bounds) (x ∷ row) zero k h = (number_few m k, h.1)
+raise_few (m ∷ bounds) (x ∷ row) (suc c) k h = (h.0, raise_few bounds row c k h.1)
+
+-- values --------------------------------------------------------------------------------------------------------------
 
 all_at : {A : Type 0} (P : A → Type 0) (xs : List A) (i : ℕ) (d : A) → AllByRecursion P xs → P d → P (slice_index_or xs i d)
 all_at P [] i d h k = k
 all_at P (x ∷ xs) zero d h k = h.0
 all_at P (x ∷ xs) (suc i) d h k = all_at P xs i d h.1 k
 
-column_short : (row : Row) (c : ℕ) → AreShort row → length (bytes_in (slice_index_or row c (int 0))) ≤ longest_text
-column_short row c h = cell_short (slice_index_or row c (int 0)) (all_at IsShort row c (int 0) h tt)
+part_few : (op : Part) (i n : ℕ) (bytes : List ℕ) → (n < untold → length (words_in_text bytes) ≤ n) → HasFew (words_of_part op n) (text (part_of op i bytes))
+part_few prefix i n bytes h = λ small. omega (arith, first_fewer i bytes, h small)
+part_few suffix i n bytes h = λ small. omega (arith, last_fewer i bytes, h small)
+part_few nth_word i n bytes h = λ small. one_word _ (all_at AreNoBlanks (words_in_text bytes) i [] (words_whole bytes) tt)
 
--- words ---------------------------------------------------------------------------------------------------------------
+either_few : (b : Bool) (m n : ℕ) (x y : Cell) → HasFew m x → HasFew n y → HasFew (max m n) (if b then y else x)
+either_few true m n x y p q = λ small. omega (arith, q (omega (arith, small)))
+either_few false m n x y p q = λ small. omega (arith, p (omega (arith, small)))
 
-words_end : (run : List ℕ) → words_after run [] ≡ ended_word run
-unfolding words_after
-words_end run = refl
+value_few : (e : Expr) (bounds : List ℕ) (row : Row) → HaveFew bounds row → HasFew (words_of bounds e) (value_of e row)
+value_few (column c) bounds row h = column_few bounds row c h
+value_few (number n) bounds row h = textless (int n) refl
+value_few (literal t) bounds row h = λ small. words_few t
+value_few (math op a b) bounds row h = textless (value_of (math op a b) row) refl
+value_few (is_zero a) bounds row h = textless (value_of (is_zero a) row) refl
+value_few (compare op x y) bounds row h = textless (value_of (compare op x y) row) refl
+value_few (choose c x y) bounds row h =
+    either_few (number_in (value_of c row) == 0) (words_of bounds x) (words_of bounds y) (value_of x row) (value_of y row) (value_few x bounds row h) (value_few y bounds row h)
+value_few (len t) bounds row h = textless (value_of (len t) row) refl
+value_few (num t) bounds row h = textless (value_of (num t) row) refl
+value_few (spelled a) bounds row h = λ small. one_word (decimal (number_in (value_of a row))) (decimal_whole (number_in (value_of a row)))
+value_few (part op a t) bounds row h = part_few op (number_in (value_of a row)) (words_of bounds t) (bytes_in (value_of t row)) (value_few t bounds row h)
 
-words_next : (run : List ℕ) (b : ℕ) (bytes : List ℕ) → words_after run (b ∷ bytes) ≡ (if is_blank b then ended_word run ++ words_after [] bytes else words_after (run ++ b ∷ []) bytes)
-unfolding words_after
-words_next run b bytes = refl
+values_few : (k : ℕ) (exprs : List Expr) (bounds : List ℕ) (row : Row) → HaveFew bounds row → HaveFew (map (words_of bounds) (take k exprs)) (map (λ e. value_of e row) exprs)
+values_few zero exprs bounds row h = tt
+values_few (suc k) [] bounds row h = tt
+values_few (suc k) (e ∷ exprs) bounds row h = (value_few e bounds row h, values_few k exprs bounds row h)
 
-few_if : (t : Bool) (n : ℕ) (xs ys : List (List ℕ)) → 2 * length xs ≤ n → 2 * length ys ≤ n → 2 * length (if t then xs else ys) ≤ n
-few_if true n xs ys p q = p
-few_if false n xs ys p q = q
+worded_few : (bounds : List ℕ) (row : Row) (c : ℕ) (words : List (List ℕ)) → HaveFew bounds row → AllByRecursion AreNoBlanks words
+    → AllByRecursion (HaveFew (slice_set bounds c 1)) (map (with_word row c) words)
+worded_few bounds row c [] h k = tt
+worded_few bounds row c (w ∷ words) h k = (set_few bounds row c 1 (text w) h (λ small. one_word w k.0), worded_few bounds row c words h k.1)
 
-ended_few : (run : List ℕ) → 2 * length (ended_word run) ≤ length run + 1
-ended_few [] = omega arith
-ended_few (b ∷ run) = omega arith
-
--- a word has a byte, and a blank stands before the next
-words_few : (run bytes : List ℕ) → 2 * length (words_after run bytes) ≤ length run + length bytes + 1
-words_few run [] =
-    let same = ap (λ (ws : List (List ℕ)). length ws) (words_end run) in
-    omega (arith, same, ended_few run)
-words_few run (b ∷ bytes) =
-    let same = ap (λ (ws : List (List ℕ)). length ws) (words_next run b bytes) in
-    let ended = ended_word run ++ words_after [] bytes in
-    let going = words_after (run ++ b ∷ []) bytes in
-    let n = length run + length (b ∷ bytes) + 1 in
-    let p : 2 * length ended ≤ n = omega (arith, length-append (ended_word run) (words_after [] bytes), ended_few run, words_few [] bytes) in
-    let q : 2 * length going ≤ n = omega (arith, length-append run (b ∷ []), words_few (run ++ b ∷ []) bytes) in
-    omega (arith, same, few_if (is_blank b) n ended going p q)
-
-all_if : {A : Type 0} (P : A → Type 0) (t : Bool) (xs ys : List A) → AllByRecursion P xs → AllByRecursion P ys → AllByRecursion P (if t then xs else ys)
-all_if P true xs ys p q = p
-all_if P false xs ys p q = q
-
-all_both : {A : Type 0} (P : A → Type 0) (xs ys : List A) → AllByRecursion P xs → AllByRecursion P ys → AllByRecursion P (xs ++ ys)
-all_both P [] ys p q = q
-all_both P (x ∷ xs) ys p q = (p.0, all_both P xs ys p.1 q)
-
-ended_short : (n : ℕ) (run : List ℕ) → length run ≤ n → AllByRecursion (λ (w : List ℕ). length w ≤ n) (ended_word run)
-ended_short n [] h = tt
-ended_short n (b ∷ run) h = (h, tt)
-
--- a word is no longer than its text
-words_short : (n : ℕ) (run bytes : List ℕ) → length run + length bytes ≤ n → AllByRecursion (λ (w : List ℕ). length w ≤ n) (words_after run bytes)
-words_short n run [] h =
-    let P : List (List ℕ) → Type 0 = λ ws. AllByRecursion (λ (w : List ℕ). length w ≤ n) ws in
-    subst P (sym (words_end run)) (ended_short n run (omega (arith, h)))
-words_short n run (b ∷ bytes) h =
-    let Short : List ℕ → Type 0 = λ w. length w ≤ n in
-    let P : List (List ℕ) → Type 0 = λ ws. AllByRecursion Short ws in
-    let at_end = all_both Short (ended_word run) (words_after [] bytes) (ended_short n run (omega (arith, h))) (words_short n [] bytes (omega (arith, h))) in
-    let going_on = words_short n (run ++ b ∷ []) bytes (omega (arith, h, length-append run (b ∷ []))) in
-    subst P (sym (words_next run b bytes)) (all_if Short (is_blank b) (ended_word run ++ words_after [] bytes) (words_after (run ++ b ∷ []) bytes) at_end going_on)
-
--- values --------------------------------------------------------------------------------------------------------------
-
-part_short : (op : Part) (n : ℕ) (bytes : List ℕ) → length bytes ≤ longest_text → length (part_of op n bytes) ≤ longest_text
-part_short prefix n bytes h = omega (arith, length-take n bytes, h)
-part_short suffix n bytes h = omega (arith, length-drop n bytes, h)
-part_short nth_word n bytes h =
-    all_at (λ (w : List ℕ). length w ≤ longest_text) (words_in_text bytes) n [] (words_short longest_text [] bytes (omega (arith, h))) (omega arith)
-
-short_if : (b : Bool) (x y : Cell) → IsShort x → IsShort y → IsShort (if b then x else y)
-short_if true x y p q = p
-short_if false x y p q = q
-
-plain_short : (e : Expr) (row : Row) → AreShort row → is_plain e ≡ true → IsShort (value_of e row)
-plain_short (column i) row h p = all_at IsShort row i (int 0) h tt
-plain_short (number n) row h p = tt
-plain_short (literal t) row h p = leb-true (length t) longest_text p
-plain_short (math op a b) row h p = tt
-plain_short (is_zero a) row h p = tt
-plain_short (compare op x y) row h p = tt
-plain_short (choose c x y) row h p =
-    let both = and_parts (is_plain x) (is_plain y) p in
-    short_if (number_in (value_of c row) == 0) (value_of y row) (value_of x row) (plain_short y row h both.1) (plain_short x row h both.0)
-plain_short (len t) row h p = tt
-plain_short (num t) row h p = tt
-plain_short (spelled a) row h p = absurd cc
-plain_short (part op a t) row h p =
-    part_short op (number_in (value_of a row)) (bytes_in (value_of t row)) (cell_short (value_of t row) (plain_short t row h p))
-
-values_short : (exprs : List Expr) (row : Row) → AreShort row → list_all is_plain exprs ≡ true → AreShort (map (λ e. value_of e row) exprs)
-values_short [] row h p = tt
-values_short (e ∷ exprs) row h p =
-    let both = and_parts (is_plain e) (list_all is_plain exprs) p in
-    (plain_short e row h both.0, values_short exprs row h both.1)
-
--- rows that are known to be short, or of which nothing is known
-abbrev Known : Bool → Row → Type 0
-Known known row = known ≡ true → AreShort row
-
-worded_known : (known : Bool) (row : Row) (c : ℕ) (words : List (List ℕ)) → Known known row → (known ≡ true → AllByRecursion (λ (w : List ℕ). length w ≤ longest_text) words)
-    → AllByRecursion (Known known) (map (with_word row c) words)
-worded_known known row c [] h k = tt
-worded_known known row c (w ∷ words) h k = (λ t. set_short row c (text w) (h t) (k t).0, worded_known known row c words h (λ t. (k t).1))
-
-raised_known : (known : Bool) (row : Row) (c : ℕ) (ns : List ℕ) → Known known row → AllByRecursion (Known known) (map (raised row c) ns)
-raised_known known row c [] h = tt
-raised_known known row c (n ∷ ns) h = (λ t. set_short row c _ (h t) tt, raised_known known row c ns h)
+raised_few : (bounds : List ℕ) (row : Row) (c : ℕ) (ns : List ℕ) → HaveFew bounds row → AllByRecursion (HaveFew bounds) (map (raised row c) ns)
+raised_few bounds row c [] h = tt
+raised_few bounds row c (n ∷ ns) h = (raise_few bounds row c _ h, raised_few bounds row c ns h)
 
 -- growth --------------------------------------------------------------------------------------------------------------
 
@@ -147,55 +120,48 @@ few_of_each P f k (row ∷ rows) each all =
     let first = each row all.0 in
     omega (arith, length-append (f row) (flat_map f rows), first, later, suc-mul (length rows) k)
 
+-- and where the rows are few too; of two bounds whose product says something, each does, or the other is 0
+few_of_few : (P : Row → Type 0) (f : Row → List Row) (g n : ℕ) (rows : List Row) → (g < untold → (row : Row) → P row → length (f row) ≤ g) → AllByRecursion P rows
+    → (n < untold → length rows ≤ n) → g * n < untold → length (flat_map f rows) ≤ g * n
+few_of_few P f g n [] each all few small = omega arith
+few_of_few P f g zero (row ∷ rows) each all few small = absurd (omega (arith, few (omega arith)))
+few_of_few P f zero (suc n) (row ∷ rows) each all few small = omega (arith, few_of_each P f 0 (row ∷ rows) (each (omega arith)) all)
+few_of_few P f (suc g) (suc n) (row ∷ rows) each all few small =
+    let a = mul-suc (suc g) n in
+    let b = suc-mul g (suc n) in
+    let count = few (omega (arith, small, b)) in
+    omega (arith, few_of_each P f (suc g) (row ∷ rows) (each (omega (arith, small, a))) all, mul-le-mul_right (suc g) count, mul_comm (suc g) (suc n))
+
 one_passes : (b : Bool) (f : Row → List Row) (row : Row) (k : ℕ) → length (f row) ≤ k → length (flat_map f (if b then [] else row ∷ [])) ≤ k
 one_passes true f row k h = omega arith
 one_passes false f row k h = omega (arith, h, length-append (f row) [])
 
-made_few : (ops : List LocalOp) (known : Bool) (row : Row) → Known known row → growth known ops < 2 ^ 64 - 1 → length (rows_through ops row) ≤ growth known ops
-made_few [] known row h small = omega arith
-made_few (map_op exprs ∷ ops) known row h small =
+made_few : (ops : List LocalOp) (bounds : List ℕ) (row : Row) → HaveFew bounds row → growth bounds ops < untold → length (rows_through ops row) ≤ growth bounds ops
+made_few [] bounds row h small = omega arith
+made_few (map_op exprs ∷ ops) bounds row h small =
     let made = map (λ e. value_of e row) exprs in
-    let still = known && list_all is_plain exprs in
-    one_passes false (rows_through ops) made (growth still ops) (made_few ops still made (λ t.
-    let both = and_parts known (list_all is_plain exprs) t in
-    values_short exprs row (h both.0) both.1) small)
-made_few (filter_op e ∷ ops) known row h small =
-    one_passes (number_in (value_of e row) == 0) (rows_through ops) row (growth known ops) (made_few ops known row h small)
-made_few (words_op c ∷ ops) true row h small =
-    let bytes = bytes_in (value_of (column c) row) in
-    let short = column_short row c (h refl) in
-    let words = words_in_text bytes in
-    let rows = map (with_word row c) words in
-    let g = growth true ops in
-    let low : g < 2 ^ 64 - 1 = omega (arith, small) in
-    let few = few_of_each (Known true) (rows_through ops) g rows (λ r k. made_few ops true r k low) (worded_known true row c words h (λ t. words_short longest_text [] bytes (omega (arith, short)))) in
-    let count : length rows ≤ 32768 = omega (arith, length-map words (with_word row c), words_few [] bytes, short) in
-    omega (arith, few, mul-le-mul_right g count)
-made_few (words_op c ∷ ops) false row h small =
+    let still = words_of_each bounds exprs in
+    one_passes false (rows_through ops) made (growth still ops) (made_few ops still made (values_few most_columns exprs bounds row h) small)
+made_few (filter_op e ∷ ops) bounds row h small =
+    one_passes (number_in (value_of e row) == 0) (rows_through ops) row (growth bounds ops) (made_few ops bounds row h small)
+made_few (words_op c ∷ ops) bounds row h small =
     let words = words_in_text (bytes_in (value_of (column c) row)) in
-    let rows = map (with_word row c) words in
-    let g = growth false ops in
-    let none : g ≡ 0 = omega (arith, small) in
-    let few = few_of_each (Known false) (rows_through ops) g rows (λ r k. made_few ops false r k (omega (arith, none))) (worded_known false row c words h (λ t. absurd cc)) in
-    omega (arith, few, ap (λ (k : ℕ). length rows * k) none)
-made_few (spread_op c zero ∷ ops) known row h small = omega arith
-made_few (spread_op c (suc n) ∷ ops) known row h small =
-    let g = growth known ops in
-    let step = mul-suc g n in
-    let rows = map (raised row c) (range_with_len 0 (suc n)) in
-    let low : g < 2 ^ 64 - 1 = omega (arith, small, step) in
-    let few = few_of_each (Known known) (rows_through ops) g rows (λ r k. made_few ops known r k low) (raised_known known row c (range_with_len 0 (suc n)) h) in
-    let count : length rows ≡ suc n = length-map-range_with_len (raised row c) 0 (suc n) in
-    omega (arith, few, ap (λ (k : ℕ). k * g) count, mul_comm (suc n) g)
+    let one = slice_set bounds c 1 in
+    few_of_few (HaveFew one) (rows_through ops) (growth one ops) (words_at bounds c) (map (with_word row c) words) (λ low r k. made_few ops one r k low)
+    (worded_few bounds row c words h (words_whole (bytes_in (value_of (column c) row))))
+    (λ low. omega (arith, length-map words (with_word row c), column_few bounds row c h low)) small
+made_few (spread_op c count ∷ ops) bounds row h small =
+    few_of_few (HaveFew bounds) (rows_through ops) (growth bounds ops) count (map (raised row c) (range_with_len 0 count)) (λ low r k. made_few ops bounds r k low)
+    (raised_few bounds row c (range_with_len 0 count) h) (λ low. omega (arith, length-map-range_with_len (raised row c) 0 count)) small
 
--- all rows that are made of short ones
-pub few_made : (ops : List LocalOp) (rows : List Row) → AllByRecursion AreShort rows → length rows * growth true ops < 2 ^ 64 - 1
-    → length (rows_from ops rows) ≤ length rows * growth true ops
-few_made ops [] all small = omega arith
-few_made ops (row ∷ rows) all small =
-    let g = growth true ops in
-    let low : g < 2 ^ 64 - 1 = omega (arith, small, suc-mul (length rows) g) in
-    few_of_each AreShort (rows_through ops) g (row ∷ rows) (λ r k. made_few ops true r (λ t. k) low) all
+-- all rows that are made of rows whose texts have at most so many bytes
+pub few_made : (ops : List LocalOp) (longest : ℕ) (rows : List Row) → AllByRecursion (AreWithin longest) rows → length rows * growth (words_within longest) ops < untold
+    → length (rows_from ops rows) ≤ length rows * growth (words_within longest) ops
+few_made ops longest [] all small = omega arith
+few_made ops longest (row ∷ rows) all small =
+    let bounds = words_within longest in
+    let low : growth bounds ops < untold = omega (arith, small, suc-mul (length rows) (growth bounds ops)) in
+    few_of_each (AreWithin longest) (rows_through ops) (growth bounds ops) (row ∷ rows) (λ r k. made_few ops bounds r (row_few most_columns longest r k) low) all
 
 -- where as many are made of each row, so many are made of all
 many_of_each : (f : Row → List Row) (k : ℕ) (rows : List Row) → ((row : Row) → length (f row) ≡ k) → length (flat_map f rows) ≡ length rows * k
@@ -205,24 +171,23 @@ many_of_each f k (row ∷ rows) each =
     let first = each row in
     omega (arith, length-append (f row) (flat_map f rows), first, later, suc-mul (length rows) k)
 
-made_even : (ops : List LocalOp) (known : Bool) (row : Row) → are_even ops ≡ true → length (rows_through ops row) ≡ growth known ops
-made_even [] known row even = refl
-made_even (map_op exprs ∷ ops) known row even =
-    let still = known && list_all is_plain exprs in
+made_even : (ops : List LocalOp) (bounds : List ℕ) (row : Row) → are_even ops ≡ true → length (rows_through ops row) ≡ growth bounds ops
+made_even [] bounds row even = refl
+made_even (map_op exprs ∷ ops) bounds row even =
+    let still = words_of_each bounds exprs in
     let one = many_of_each (rows_through ops) (growth still ops) (map (λ e. value_of e row) exprs ∷ []) (λ r. made_even ops still r even) in
     omega (arith, one)
-made_even (filter_op e ∷ ops) known row even = absurd cc
-made_even (words_op c ∷ ops) known row even = absurd cc
-made_even (spread_op c count ∷ ops) known row even =
-    let g = growth known ops in
+made_even (filter_op e ∷ ops) bounds row even = absurd cc
+made_even (words_op c ∷ ops) bounds row even = absurd cc
+made_even (spread_op c count ∷ ops) bounds row even =
+    let g = growth bounds ops in
     let rows = map (raised row c) (range_with_len 0 count) in
-    let all = many_of_each (rows_through ops) g rows (λ r. made_even ops known r even) in
-    let long : length rows ≡ count = length-map-range_with_len (raised row c) 0 count in
-    all ∙ ap (λ (k : ℕ). k * g) long ∙ mul_comm count g
+    let all = many_of_each (rows_through ops) g rows (λ r. made_even ops bounds r even) in
+    all ∙ ap (λ (k : ℕ). k * g) (length-map-range_with_len (raised row c) 0 count) ∙ mul_comm count g
 
 -- all rows that are made
-pub many_made : (ops : List LocalOp) (rows : List Row) → are_even ops ≡ true → length (rows_from ops rows) ≡ length rows * growth true ops
-many_made ops rows even = many_of_each (rows_through ops) (growth true ops) rows (λ r. made_even ops true r even)
+pub many_made : (ops : List LocalOp) (bounds : List ℕ) (rows : List Row) → are_even ops ≡ true → length (rows_from ops rows) ≡ length rows * growth bounds ops
+many_made ops bounds rows even = many_of_each (rows_through ops) (growth bounds ops) rows (λ r. made_even ops bounds r even)
 
 -- products that stand still at the largest number
 pub still_left : (a b : ℕ) → min (min a (2 ^ 64 - 1) * b) (2 ^ 64 - 1) ≡ min (a * b) (2 ^ 64 - 1)

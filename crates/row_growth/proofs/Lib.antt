@@ -1,1 +1,2 @@
+mod WordCounts
 pub mod GrowthLemmas
