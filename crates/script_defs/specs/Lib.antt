@@ -8,5 +8,6 @@ pub mod Sound
 pub mod Lists
 pub mod Work
 pub mod Plans
+pub mod Needs
 pub mod Runs
 pub mod Ends

@@ -1,3 +1,4 @@
 pub mod ItemLemmas
 pub mod ActionLemmas
 pub mod StageLemmas
+pub mod NeedLemmas

@@ -12,6 +12,7 @@ use Rattle.script_defs.specs.Sound.{IsSound}
 use Rattle.script_defs.specs.Lists.{Lists, IsLine, failure_of_form}
 use Rattle.script_defs.specs.Work.{Item, do_line, do_action}
 use Rattle.script_defs.specs.Plans.{Stage, IsStage, IsPlan, item_of}
+use Rattle.script_defs.specs.Needs.{inputs_needed, read_by_stages}
 use Rattle.script_defs.specs.Runs.{text_of_rows}
 use Rattle.script_defs.specs.Ends.{Ending, whole, stopped, too_many, cut_off, IsEnd}
 use Rattle.dia_edge.specs.Sinks.{TookAll, TookPrefix}
@@ -58,6 +59,10 @@ PlanEnds =
 abbrev pub NothingIsDone : Type 0
 NothingIsDone =
     (script : Script) (begun : Option (List ℕ)) → IsSound nothing_known 1 script → (inputs : Inputs) → Ended begun (IsEnd script inputs cut_off) begun
+
+-- what the stages of a plan read are the inputs that the script needs
+abbrev pub PlanReadsWhatIsNeeded : Type 0
+PlanReadsWhatIsNeeded = (script : Script) (plan : List Stage) → IsPlan script plan → read_by_stages plan ≡ inputs_needed script
 
 -- items ---------------------------------------------------------------------------------------------------------------
 

@@ -1,5 +1,5 @@
 //! The laws.
-ghost use Rattle.stage_laws.specs.Laws.{PlanBegins, StageCanBeDone, StageGoesOn, StageStops, PlanEnds, NothingIsDone};
+ghost use Rattle.stage_laws.specs.Laws.{PlanBegins, StageCanBeDone, StageGoesOn, StageStops, PlanEnds, NothingIsDone, PlanReadsWhatIsNeeded};
 ghost use Rattle.stage_laws.specs.Laws.{LineIsKept, ActionIsDone, ActionIsCutOff, ActionHasTooMany, InputFails, ItemIsCutOff};
 
 /// A run of an accepted script stands before the stages of its plan, while nothing is kept.
@@ -30,6 +30,11 @@ pub fn plan_ends()
 /// Before the first stage nothing is done.
 pub fn nothing_is_done()
     ensures { NothingIsDone }
+{}
+
+/// What the stages of a plan read are the inputs that the script needs.
+pub fn plan_reads_what_is_needed()
+    ensures { PlanReadsWhatIsNeeded }
 {}
 
 /// A line goes on where what is kept for it is a result of its definition.

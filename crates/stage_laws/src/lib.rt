@@ -10,6 +10,6 @@ mod laws;
 
 pub use laws::{
     action_has_too_many, action_is_cut_off, action_is_done, input_fails, item_is_cut_off,
-    line_is_kept, nothing_is_done, plan_begins, plan_ends, stage_can_be_done, stage_goes_on,
-    stage_stops,
+    line_is_kept, nothing_is_done, plan_begins, plan_ends, plan_reads_what_is_needed,
+    stage_can_be_done, stage_goes_on, stage_stops,
 };

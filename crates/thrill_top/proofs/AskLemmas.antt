@@ -1,60 +1,15 @@
 -- Which inputs a run asks for.
-use Rattle.std.proofs.Common.{◌≡◌, ◌≢◌, ℕ, true, false, cond, List, [], ◌∷◌, ◌++◌, map, filter, Option, None, Some, Result, Ok, Err, refl, sym, ap, ◌∙◌, subst, append_assoc, append-nil}
-use Rattle.std.specs.List.{AllByRecursion, flat_map}
-use Rattle.std.proofs.lemmas.Bool.{true≢false}
+use Rattle.std.proofs.Common.{◌≡◌, ◌≢◌, ℕ, List, [], ◌∷◌, ◌++◌, Option, Some, Ok, refl, sym, ap, ◌∙◌, subst, append_assoc, append-nil}
 use Rattle.row_defs.specs.Inputs.{Inputs}
-use Rattle.script_defs.specs.Scripts.{lines_form, generate_form, local_form, Statement, line, act, Script, statement_at}
+use Rattle.script_defs.specs.Scripts.{Script}
 use Rattle.script_defs.specs.Reading.{reading_of}
-use Rattle.script_defs.specs.Work.{Item, do_line, do_action, work_of}
-use Rattle.script_defs.specs.Plans.{Stage, IsStage, IsPlan, item_of, is_stage, is_stored_line}
+use Rattle.script_defs.specs.Needs.{inputs_needed}
 use Rattle.dia_edge.specs.Shelves.{and_asked}
 use Rattle.dia_edge.specs.declared.shelf.Shelf.{Ghosts}
 use Rattle.dia_edge.proofs.ShelfLemmas.{asked_none, asked_then}
-use Rattle.dia_lines.specs.Inputs.{AskedBut, AskedSome, Asks}
-use Rattle.stage_builder.specs.declared.plan.Task as tasks
-use Rattle.stage_builder.specs.declared.plan.Stage as stages
-use Rattle.stage_builder.specs.Views.{statement_of_task, stage_in}
-use Rattle.thrill_top.specs.Asking.{read_by, read_by_some, read_by_item, inputs_needed, read_by_stages, IsScriptAt, AskedFor}
+use Rattle.dia_lines.specs.Inputs.{AskedBut, AskedSome}
+use Rattle.thrill_top.specs.Asking.{IsScriptAt, AskedFor}
 use Rattle.thrill_top.proofs.EndLemmas.{same_bytes, same_script}
-
--- what a plan's stages read ------------------------------------------------------------------------------------------
-
-unread : (s : Option Statement) → is_stored_line s ≡ false → read_by_some s ≡ []
-unread None quiet = refl
-unread (Some (line name (lines_form input))) quiet = absurd (true≢false quiet)
-unread (Some (line name (generate_form count))) quiet = refl
-unread (Some (line name (local_form of op))) quiet = refl
-unread (Some (act action)) quiet = refl
-
-unread_item : (script : Script) (x : Item) → is_stage script x ≡ false → read_by_item script x ≡ []
-unread_item script (do_line n) quiet = unread (statement_at script n) quiet
-unread_item script (do_action n) quiet = refl
-
-read_by_work : (script : Script) (items : List Item) → flat_map (read_by_item script) (filter (is_stage script) items) ≡ flat_map (read_by_item script) items
-read_by_work script [] = refl
-read_by_work script (x ∷ items) =
-    elim (is_stage script x) as (λ t. is_stage script x ≡ t
-    → flat_map (read_by_item script) (cond t (x ∷ filter (is_stage script) items) (filter (is_stage script) items)) ≡ read_by_item script x ++ flat_map (read_by_item script) items) [
-      | true ↦ λ yes. ap (λ (names : List (List ℕ)). read_by_item script x ++ names) (read_by_work script items)
-      | false ↦ λ quiet. read_by_work script items ∙ sym (ap (λ (names : List (List ℕ)). names ++ flat_map (read_by_item script) items) (unread_item script x quiet))
-    ] refl
-
-read_by_statement : (script : Script) (n : ℕ) (s : Statement) → statement_at script n ≡ Some s → read_by_item script (item_of n s) ≡ read_by s
-read_by_statement script n (line name form) is = ap read_by_some is
-read_by_statement script n (act action) is = refl
-
-read_by_plan : (script : Script) (plan : List Stage) → AllByRecursion (IsStage script) plan → flat_map (read_by_item script) (map (λ (s : Stage). item_of s.number s.statement) plan) ≡ read_by_stages plan
-read_by_plan script [] all = refl
-read_by_plan script (s ∷ plan) all =
-    ap (λ (names : List (List ℕ)). names ++ flat_map (read_by_item script) (map (λ (x : Stage). item_of x.number x.statement) plan)) (read_by_statement script s.number s.statement all.0.is)
-    ∙ ap (λ (names : List (List ℕ)). read_by s.statement ++ names) (read_by_plan script plan all.1)
-
-pub plan_reads : (script : Script) (plan : List Stage) → IsPlan script plan → read_by_stages plan ≡ inputs_needed script
-plan_reads script plan is =
-    sym (read_by_plan script plan is.stages) ∙ ap (λ (items : List Item). flat_map (read_by_item script) items) is.order ∙ read_by_work script (work_of script)
-
-pub task_reads : (s : stages.Stage) (task : tasks.Task) → s.task ≡ task → read_by (statement_of_task task) ≡ read_by (stage_in s).statement
-task_reads s task is = ap (λ (x : tasks.Task). read_by (statement_of_task x)) (sym is)
 
 module _ {N : Type 0} (g : Ghosts N) where
   -- call after call ---------------------------------------------------------------------------------------------------
@@ -81,11 +36,6 @@ module _ {N : Type 0} (g : Ghosts N) where
   more_names : (old now : N) (names more : List (List ℕ)) → AskedSome g old now names → AskedSome g old now (names ++ more)
   more_names old now names more p =
       (p.0 ++ more, record { done = p.1.done; parts = ap (λ (xs : List (List ℕ)). xs ++ more) p.1.parts ∙ append_assoc p.1.done p.0 more; is = p.1.is })
-
-  -- a call that asks for nothing
-  pub nothing_read : {V E : Type 0} (shelf : N) (r : Result V E) → Asks g shelf shelf [] r
-  nothing_read shelf (Ok v) = asked_none (g.asked shelf)
-  nothing_read shelf (Err e) = ([], asked_no_one shelf shelf [] refl)
 
   -- a script ----------------------------------------------------------------------------------------------------------
 

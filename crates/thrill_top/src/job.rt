@@ -2,9 +2,10 @@
 ghost use Rattle.std.specs.Prelude.{◌≡◌, ◌⊎◌, ◌∷◌, ℕ, List, Some, IfErr};
 ghost use Rattle.row_defs.specs.Inputs.{Inputs};
 ghost use Rattle.script_defs.specs.Scripts.{Script};
+ghost use Rattle.script_defs.specs.Needs.{inputs_needed};
 ghost use Rattle.dia_lines.specs.Inputs.{Asks};
 ghost use Rattle.job_words.specs.declared.fault.TopFault.TheVariants as faults;
-ghost use Rattle.thrill_top.specs.Asking.{IsScriptAt, inputs_needed};
+ghost use Rattle.thrill_top.specs.Asking.{IsScriptAt};
 ghost use Rattle.thrill_top.specs.Ends.{IsCallFault, status_in};
 ghost use Rattle.thrill_top.specs.Errors.{bytes_fault, script_fault, run_fault};
 ghost use Rattle.thrill_top.specs.Promise.{TellsInputs, TellsScript, EndsCall, fault_in};

@@ -1,12 +1,13 @@
 //! The top call.
 ghost use Rattle.std.specs.Prelude.{◌≡◌, ◌≢◌, ◌↔◌, ◌⊎◌, ◌∷◌, ℕ, List, None, Some, MatchOption};
 ghost use Rattle.script_defs.specs.Scripts.{Script};
+ghost use Rattle.script_defs.specs.Needs.{inputs_needed};
 ghost use Rattle.row_defs.specs.Inputs.{Inputs};
 ghost use Rattle.row_defs.specs.declared.cause.Cause.{Cause};
 ghost use Rattle.dia_edge.specs.Counts.{HasRisen};
 ghost use Rattle.job_words.specs.Faults.{fault_status};
 ghost use Rattle.job_words.specs.Words.{script_of};
-ghost use Rattle.thrill_top.specs.Asking.{IsScriptAt, inputs_needed, AskedFor};
+ghost use Rattle.thrill_top.specs.Asking.{IsScriptAt, AskedFor};
 ghost use Rattle.thrill_top.specs.Ends.{TookLine};
 ghost use Rattle.thrill_top.specs.Errors.{TellsFault};
 ghost use Rattle.thrill_top.specs.Promise.{TellsInputs, EndsCall, IsReadable, IsRefusedScript, IsRefusedWith, IsAbsentWith, IsExcused, IsWhole};

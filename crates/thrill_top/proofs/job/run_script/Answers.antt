@@ -10,7 +10,7 @@ use Rattle.thrill_top.specs.Errors.{run_fault}
 use Rattle.thrill_top.specs.Promise.{EndsCall, TellsScript}
 use Rattle.thrill_top.proofs.ReadLemmas.{reading_cut}
 use Rattle.thrill_top.proofs.EndLemmas.{bytes_ends, script_ends, accepted_ends, bytes_tell, script_tells, accepted_tells}
-use Rattle.thrill_top.specs.Asking.{inputs_needed}
+use Rattle.script_defs.specs.Needs.{inputs_needed}
 use Rattle.thrill_top.proofs.AskLemmas.{script_unread, script_alone, script_whole, script_cut}
 use Rattle.thrill_top.proofs.job.run_script.Goals as goal
 

@@ -1,7 +1,7 @@
 use Rattle.std.proofs.Common.{◌≡◌, Err, Result, rules, refl, sym, subst}
 use Rattle.thrill_top.specs.declared.run_err.RunErr.{RunErr}
 use Rattle.thrill_top.specs.declared.run_err.RunErr.TheVariants as errors
-use Rattle.thrill_top.specs.Asking.{inputs_needed}
+use Rattle.script_defs.specs.Needs.{inputs_needed}
 use Rattle.thrill_top.specs.Errors.{run_end}
 use Rattle.thrill_top.specs.Promise.{EndsRun}
 use Rattle.thrill_top.proofs.AskLemmas.{asked_no_one}
