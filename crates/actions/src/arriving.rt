@@ -13,7 +13,7 @@ use crate::action::ActErr;
 use crate::buffers::Buffers;
 use dia_edge::NoMemory;
 use dia_item::RowBuf;
-use lop_chain::{Chain, ScriptOp};
+use lop_chain::{Chain, ScriptOp, copy_ops};
 use row_defs::limits::MOST_ROWS;
 use row_feed::{Counter, Source, Summer, TooManyRows, extent_of, feed};
 use row_growth::Extent;
@@ -25,16 +25,6 @@ pub(crate) fn chain_of(alloc: Global, ops: &[ScriptOp]) -> Result<Chain, NoMemor
     ensures { IfOk result (λ chain. chain_ops chain ≡ ops_in ops.now) }
 {
     Chain::new(alloc, copy_ops(alloc, ops)?)
-}
-
-fn copy_ops(alloc: Global, ops: &[ScriptOp]) -> Result<Vec<ScriptOp>, NoMemory>
-    ensures { IfOk result (λ copies. ops_in copies.items ≡ ops_in ops.now) }
-{
-    let mut copies = Vec::new(alloc);
-    for op in ops {
-        copies.push(op.copy(alloc)?)?;
-    }
-    Ok(copies)
 }
 
 /// So many rows may arrive, or are too many.

@@ -21,7 +21,7 @@ mod through;
 pub use chain::Chain;
 pub use local_op::LocalOp;
 pub use operand::{Operand, Root};
-pub use script_op::{ScriptOp, copy_exprs};
+pub use script_op::{ScriptOp, copy_exprs, copy_ops};
 pub use sink::RowSink;
 pub use then::Then;
 

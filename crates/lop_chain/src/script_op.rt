@@ -1,6 +1,6 @@
 //! Local lines of a script.
 ghost use Rattle.std.specs.Prelude.{◌≡◌, IfOk};
-ghost use Rattle.lop_chain.specs.Ops.{exprs_in};
+ghost use Rattle.lop_chain.specs.Ops.{exprs_in, ops_in};
 
 use dia_edge::NoMemory;
 use dia_expr::Expr;
@@ -34,6 +34,17 @@ pub fn copy_exprs(alloc: Global, exprs: &[Expr]) -> Result<Vec<Expr>, NoMemory>
     let mut copies = Vec::new(alloc);
     for expr in exprs {
         copies.push(expr.copy(alloc)?)?;
+    }
+    Ok(copies)
+}
+
+/// The same lines.
+pub fn copy_ops(alloc: Global, ops: &[ScriptOp]) -> Result<Vec<ScriptOp>, NoMemory>
+    ensures { IfOk result (λ copies. ops_in copies.items ≡ ops_in ops.now) }
+{
+    let mut copies = Vec::new(alloc);
+    for op in ops {
+        copies.push(op.copy(alloc)?)?;
     }
     Ok(copies)
 }

@@ -30,17 +30,6 @@ fn of_column(alloc: Global, op: Math, n: u64) -> Result<Expr, NoMemory>
     Ok(Expr::Math(op, left, right))
 }
 
-/// The same lines.
-fn copies(alloc: Global, ops: &[ScriptOp]) -> Result<Vec<ScriptOp>, NoMemory>
-    ensures { IfOk result (λ copies. ops_in copies.items ≡ ops_in ops.now) }
-{
-    let mut copies = Vec::new(alloc);
-    for op in ops {
-        copies.push(op.copy(alloc)?)?;
-    }
-    Ok(copies)
-}
-
 /// Of each odd number 3 times the number, and the next three.
 fn odd_times_3(alloc: Global) -> Result<Vec<ScriptOp>, NoMemory>
     ensures { IfOk result (λ ops. AreSoundOps (Int ∷ []) (ops_in ops.items) (Int ∷ [])) }
@@ -84,7 +73,7 @@ fn a_thousand_rows_are_filtered_mapped_and_spread(rt: HostRuntime) -> Result<(),
     let mut row = RowBuf::new(rt.alloc())?;
     for (most, rows, is_ok) in [(5000, 2000, true), (2000, 2000, true), (1999, 1999, false)] {
         let ops = odd_times_3(rt.alloc())?;
-        let mut chain = Chain::new(rt.alloc(), copies(rt.alloc(), ops.as_slice())?)?;
+        let mut chain = Chain::new(rt.alloc(), copy_ops(rt.alloc(), ops.as_slice())?)?;
         let mut into = Tally {
             rows: 0,
             sum: 0,
@@ -196,7 +185,7 @@ fn a_sink_that_refuses_has_the_rows_before(rt: HostRuntime) -> Result<(), Fail> 
     for most in 0..=MADE.len() {
         let row = three_words_and_5(rt.alloc())?;
         let ops = words_then_spread(rt.alloc())?;
-        let mut chain = Chain::new(rt.alloc(), copies(rt.alloc(), ops.as_slice())?)?;
+        let mut chain = Chain::new(rt.alloc(), copy_ops(rt.alloc(), ops.as_slice())?)?;
         assert!(rt; keeps_the_first(&rt, rt.alloc(), &mut chain, row.row(), most));
 
         let mut both = words_and_spread(rt.alloc())?;

@@ -3,3 +3,6 @@ pub mod Changes
 pub mod Counting
 pub mod Rooted
 pub mod Making
+pub mod SentRows
+pub mod Threes
+pub mod Turns

@@ -17,3 +17,7 @@ OnOk-map (Err e) P Q f p = p
 pub on_each : {T E : Type 0} (r : Result T E) (A B P : Type 0) → (A → P) → (B → P) → OnOk r A → OnErr r B → P
 on_each (Ok t) A B P f g a b = f a
 on_each (Err e) A B P f g a b = g b
+
+pub IfOk-with : {T E : Type 0} (r : Result T E) (P Q : T → Type 0) (A : Type 0) → ((t : T) → P t → A → Q t) → IfOk r P → OnOk r A → IfOk r Q
+IfOk-with (Ok t) P Q A f p a = f t p a
+IfOk-with (Err e) P Q A f p a = p

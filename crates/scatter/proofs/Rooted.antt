@@ -16,7 +16,9 @@ use Rattle.collective.specs.Shares.{share_of, shares_of}
 use Rattle.collective.proofs.ShareLaws.{shares_joined}
 use Rattle.scatter.specs.Feeds.{FeedValue, number_rows, part_feed, number_feed}
 use Rattle.scatter.specs.Lines.{LineValue, Lines, Sets, HasKinds, first_kinds, with_parts, all_lent, files_in, files_of, HasRoot, root_rows, root_kinds, root_feeds, IsFedFrom}
-use Rattle.scatter.specs.Stocks.{PartHasKinds, IsLine, AreLines, IsPartOf, AreInPools, FeedsAreInPools}
+use Rattle.scatter.specs.Stocks.{PartHasKinds, IsLine, AreLines, IsPartOf, AreInPools, FeedsAreInPools, AreLent, IsToRestore}
+use Rattle.scatter.specs.Phases.{IsRestored, IsUsed}
+use Rattle.scatter.specs.Begun.{IsNew}
 
 -- what holds of each line holds still where it holds of the one that changed
 pub still : (P : LineValue → Type 0) (old now : Lines) (n : ℕ) (w : Option LineValue) → Sets old n w now
@@ -198,3 +200,100 @@ fed_still P lent lines now (stored_root n) false has fed all =
     let one : option_map all_lent (lines n) ≡ Some (all_lent has.line) = ap (option_map all_lent) has.there in
     only P (all_lent has.line) (lent has.line (all n has.line has.there)) line (sym one ∙ same)) all
 fed_still P lent lines now (count_root n rows) last has fed all = λ m line there. all m line (sym (ap (λ (f : Lines). f m) fed) ∙ there)
+
+abbrev keeps : FeedValue → Option FileValue
+keeps f = f.keeps
+
+-- the files that feeds give back are the parts that were lent
+keeps_parts : (ops : List LocalOp) (parts : List (Option FileValue)) → All IsSome parts → map keeps (map (part_feed false ops) (present parts)) ≡ parts
+keeps_parts ops [] all = refl
+keeps_parts ops (None ∷ parts) all = absurd (not_lent parts all)
+keeps_parts ops (Some f ∷ parts) all = ap (λ l. Some f ∷ l) (keeps_parts ops parts (All-tail IsSome (Some f) parts all))
+
+pub to_restore : (lines now : Lines) (workers : ℕ) (ops : List LocalOp) (root : Root) (last : Bool) → AreLines workers lines → HasRoot lines root → IsFedFrom lines root last now
+    → IsToRestore root last now workers (map keeps (root_feeds lines workers root last ops))
+to_restore lines now workers ops (stored_root n) true are has fed = tt
+to_restore lines now workers ops (stored_root n) false are has fed =
+    let is = are n has.line has.there in
+    let parts : map keeps (map (part_feed false ops) (files_of (lines n))) ≡ has.line.parts =
+    ap (λ line. map keeps (map (part_feed false ops) (files_of line))) has.there ∙ keeps_parts ops has.line.parts has.whole in
+    let P : List (Option FileValue) → Type 0 = λ ps. IsLine workers (with_parts has.line ps) in
+    let whole : P has.line.parts = record { count = is.count; kinds = is.kinds } in
+    record {
+      line = has.line;
+      there = fed.here ∙ ap (option_map all_lent) has.there;
+      is = subst P (sym parts) whole;
+    }
+to_restore lines now workers ops (count_root n rows) last are has fed = tt
+
+-- feeds that have just begun
+part_new : (last : Bool) (ops : List LocalOp) (f : FileValue) → IsNew (part_feed last ops f)
+part_new true ops f = (refl, omega arith)
+part_new false ops f = (refl, omega arith)
+
+parts_new : (last : Bool) (ops : List LocalOp) (files : List FileValue) → All IsNew (map (part_feed last ops) files)
+parts_new last ops [] = All-nil IsNew
+parts_new last ops (f ∷ files) = All-cons IsNew (part_feed last ops f) (map (part_feed last ops) files) (part_new last ops f) (parts_new last ops files)
+
+numbers_new : (ops : List LocalOp) (shares : List (List Row)) → All IsNew (map (number_feed ops) shares)
+numbers_new ops [] = All-nil IsNew
+numbers_new ops (share ∷ shares) = All-cons IsNew (number_feed ops share) (map (number_feed ops) shares) (refl, omega arith) (numbers_new ops shares)
+
+pub root_new : (lines : Lines) (workers : ℕ) (root : Root) (last : Bool) (ops : List LocalOp) → All IsNew (root_feeds lines workers root last ops)
+root_new lines workers (stored_root n) last ops = parts_new last ops (files_of (lines n))
+root_new lines workers (count_root n rows) last ops = numbers_new ops (shares_of (number_rows 0 rows) workers workers)
+
+-- and go through these lines
+abbrev pub GoesThrough : List LocalOp → FeedValue → Type 0
+GoesThrough ops f = f.ops ≡ ops
+
+part_ops : (last : Bool) (ops : List LocalOp) (f : FileValue) → (part_feed last ops f).ops ≡ ops
+part_ops true ops f = refl
+part_ops false ops f = refl
+
+parts_ops : (last : Bool) (ops : List LocalOp) (files : List FileValue) → All (GoesThrough ops) (map (part_feed last ops) files)
+parts_ops last ops [] = All-nil (GoesThrough ops)
+parts_ops last ops (f ∷ files) = All-cons (GoesThrough ops) (part_feed last ops f) (map (part_feed last ops) files) (part_ops last ops f) (parts_ops last ops files)
+
+numbers_ops : (ops : List LocalOp) (shares : List (List Row)) → All (GoesThrough ops) (map (number_feed ops) shares)
+numbers_ops ops [] = All-nil (GoesThrough ops)
+numbers_ops ops (share ∷ shares) = All-cons (GoesThrough ops) (number_feed ops share) (map (number_feed ops) shares) refl (numbers_ops ops shares)
+
+pub root_ops : (lines : Lines) (workers : ℕ) (root : Root) (last : Bool) (ops : List LocalOp) → All (GoesThrough ops) (root_feeds lines workers root last ops)
+root_ops lines workers (stored_root n) last ops = parts_ops last ops (files_of (lines n))
+root_ops lines workers (count_root n rows) last ops = numbers_ops ops (shares_of (number_rows 0 rows) workers workers)
+
+-- these are a line's parts
+abbrev pub IsWholeAgain : Lines → Root → Bool → List (Option FileValue) → Type 0
+IsWholeAgain lines (stored_root n) false parts = (line : LineValue) → lines n ≡ Some line → parts ≡ line.parts
+IsWholeAgain lines (stored_root n) true parts = Unit {0}
+IsWholeAgain lines (count_root n rows) last parts = Unit {0}
+
+pub whole_again : (lines : Lines) (workers : ℕ) (root : Root) (last : Bool) (ops : List LocalOp) (parts : List (Option FileValue)) → HasRoot lines root
+    → parts ≡ map keeps (root_feeds lines workers root last ops) → IsWholeAgain lines root last parts
+whole_again lines workers (stored_root n) true ops parts has is = tt
+whole_again lines workers (stored_root n) false ops parts has is = λ line there.
+    let both : Some has.line ≡ Some line = sym has.there ∙ there in
+    let one : has.line ≡ line = cc in
+    is ∙ ap (λ l. map keeps (map (part_feed false ops) (files_of l))) has.there ∙ keeps_parts ops has.line.parts has.whole ∙ ap (λ (l : LineValue). l.parts) one
+whole_again lines workers (count_root n rows) last ops parts has is = tt
+
+-- the lines after a root was fed and its parts are back
+pub used : (lines mid now : Lines) (root : Root) (last : Bool) (workers : ℕ) (parts : List (Option FileValue)) → HasRoot lines root → IsFedFrom lines root last mid
+    → IsToRestore root last mid workers parts → (parts_are : IsWholeAgain lines root last parts) → IsRestored root last mid parts now → IsUsed lines root last now
+used lines mid now (stored_root n) true workers parts has fed lent same back = record {
+  here = back n ∙ fed.here;
+  others = λ m. elim (fed.others m) [ inl is ↦ inl is | inr other ↦ inr (back m ∙ other) ];
+}
+used lines mid now (stored_root n) false workers parts has fed lent same back =
+    let there : mid n ≡ Some (all_lent has.line) = fed.here ∙ ap (option_map all_lent) has.there in
+    let sets = back (all_lent has.line) there in
+    let line : with_parts has.line parts ≡ has.line = ap (with_parts has.line) (same has.line has.there) in
+    λ m. elim (sets.others m) [
+      | inl is ↦ ap now is ∙ sets.here ∙ ap (λ l. Some l) line ∙ sym has.there ∙ ap lines (sym is)
+      | inr other ↦ elim (fed.others m) [
+        | inl is ↦ ap now is ∙ sets.here ∙ ap (λ l. Some l) line ∙ sym has.there ∙ ap lines (sym is)
+        | inr same ↦ other ∙ same
+      ]
+    ]
+used lines mid now (count_root n rows) last workers parts has fed lent same back = λ m. back m ∙ ap (λ (f : Lines). f m) fed

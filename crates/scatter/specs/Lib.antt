@@ -2,6 +2,10 @@ pub mod Nets
 pub mod Feeds
 pub mod Fitting
 pub mod Steps
+pub mod Sends
+pub mod SendLaws
+pub mod Phases
 pub mod Lines
 pub mod Stocks
 pub mod Worked
+pub mod Begun

@@ -1,12 +1,13 @@
 -- What a stock holds.
-use Rattle.std.specs.Prelude.{◌≡◌, ℕ, ◌<◌, List, All, Option, None, Some, length, ⊤}
+use Rattle.std.specs.Prelude.{◌≡◌, ℕ, ◌<◌, Bool, true, false, List, All, Option, None, Some, length, ⊤}
 use Rattle.std.specs.List.{AllZip}
 use Rattle.row_defs.specs.declared.kind.Kind.{Kind}
+use Rattle.row_defs.specs.Operands.{Root, stored_root, count_root}
 use Rattle.block_pool.specs.Handles.{PoolName, AreOfPool}
 use Rattle.dia_file.specs.Files.{FileValue, IsFileOf}
 use Rattle.scatter.specs.declared.stock.Stock.TheInside.{Inside}
 use Rattle.scatter.specs.Feeds.{FeedValue}
-use Rattle.scatter.specs.Lines.{LineValue, Lines, lines_among, entries_of, lines_in, HasKinds}
+use Rattle.scatter.specs.Lines.{LineValue, Lines, lines_among, entries_of, lines_in, HasKinds, with_parts, all_lent}
 
 pub record StockValue (X : Type 0) : Type 0 where
   pub net : X
@@ -31,6 +32,18 @@ pub record IsLine (workers : ℕ) (line : LineValue) : Type 0 where
 
 abbrev pub AreLines : ℕ → Lines → Type 0
 AreLines workers lines = (n : ℕ) (line : LineValue) → lines n ≡ Some line → IsLine workers line
+
+-- the line is there with all its parts lent, and may have these again
+pub record AreLent (lines : Lines) (n workers : ℕ) (parts : List (Option FileValue)) : Type 0 where
+  pub line : LineValue
+  pub there : lines n ≡ Some (all_lent line)
+  pub is : IsLine workers (with_parts line parts)
+
+-- where a line's parts were lent, it may have these again
+abbrev pub IsToRestore : Root → Bool → Lines → ℕ → List (Option FileValue) → Type 0
+IsToRestore (stored_root n) false lines workers parts = AreLent lines n workers parts
+IsToRestore (stored_root n) true lines workers parts = ⊤
+IsToRestore (count_root n rows) last lines workers parts = ⊤
 
 pub record IsStock {X : Type 0} (s : Inside X) : Type 0 where
   pub some : 0 < s.workers

@@ -16,19 +16,8 @@ use collective::share;
 use dia_edge::NoMemory;
 use dia_file::File;
 use dia_item::RowBuf;
-use lop_chain::{Chain, Root, ScriptOp};
+use lop_chain::{Chain, Root, ScriptOp, copy_ops};
 use std::alloc::Global;
-
-/// The same lines.
-fn copy_ops(alloc: Global, ops: &[ScriptOp]) -> Result<Vec<ScriptOp>, NoMemory>
-    ensures { IfOk result (λ copies. ops_in copies.items ≡ ops_in ops.now) }
-{
-    let mut copies = Vec::new(alloc);
-    for op in ops {
-        copies.push(op.copy(alloc)?)?;
-    }
-    Ok(copies)
-}
 
 /// A chain of these lines for each worker.
 pub(crate) fn chains_of(

@@ -8,17 +8,23 @@
 //! sink in `specs/Fitting.antt`, and what they see of a stock in `specs/Lines.antt` and `specs/Stocks.antt`.
 #![tactic(auto)]
 
+mod ending;
 mod feed;
 mod feed_err;
 mod feeding;
 mod line;
 mod net;
+mod phase;
+mod pushing;
+mod sending;
 mod steps;
 mod stock;
 
 pub use feed::Feed;
 pub use feed_err::FeedErr;
 pub use net::{Home, Net};
+pub use phase::Phase;
+pub use sending::Sending;
 pub use stock::Stock;
 
 #[cfg(test)]

@@ -9,7 +9,7 @@ ghost use Rattle.scatter.specs.Lines.{LineValue, with_parts, first_kinds, HasKin
 
 use crate::feed::Feed;
 use crate::feeding::{chains_of, feed_root};
-use crate::line::{Line, put_back};
+use crate::line::{Line, put_back, replace_parts};
 use crate::net::Net;
 use dia_edge::NoMemory;
 use dia_file::File;
@@ -42,7 +42,7 @@ impl<X> Model for Stock<X> {
 
 impl<X: Net> Stock<X> {
     ghost use Rattle.scatter.specs.Feeds.{FeedValue};
-    ghost use Rattle.scatter.specs.Stocks.{lines_of, AreInPools, FeedsAreInPools};
+    ghost use Rattle.scatter.specs.Stocks.{lines_of, AreLent, IsToRestore, AreInPools, FeedsAreInPools};
 
     /// No lines, for so many workers. It takes no memory yet.
     pub fn new(alloc: Global, net: X, workers: u32) -> Result<Stock<X>, (X, NoMemory)>
@@ -96,6 +96,7 @@ impl<X: Net> Stock<X> {
         ensures kinds { IfOk result (λ feeds. All (λ (f : FeedValue). f.kinds ≡ root_kinds (lines_of self.old) (root_in operand.now.root)) feeds.items) }
         ensures count { IfOk result (λ feeds. vec_len feeds ≡ self.old.workers) }
         ensures lines { OnOk result (IsFedFrom (lines_of self.old) (root_in operand.now.root) last (lines_of self.new)) }
+        ensures lent { IfOk result (λ feeds. IsToRestore (root_in operand.now.root) last (lines_of self.new) self.new.workers (map (λ (f : FeedValue). f.keeps) feeds.items)) }
         ensures pools { OnOk result ((pools : List PoolName) → AreInPools pools (lines_of self.old) → AreInPools pools (lines_of self.new)) }
         ensures own { IfOk result (λ feeds. (pools : List PoolName) → length pools ≡ self.old.workers → AreInPools pools (lines_of self.old) → FeedsAreInPools pools feeds.items) }
         ensures net { self.new.net ≡ self.old.net }
@@ -117,6 +118,17 @@ impl<X: Net> Stock<X> {
         ensures workers { self.new.workers ≡ self.old.workers }
     {
         put_back(&mut self.lines, line, rank, file);
+    }
+
+    /// The parts of a line come back from all workers to whom they were lent. It takes no memory and has no refusal.
+    pub fn restore_all(&mut self, line: u32, parts: Vec<Option<File>>)
+        requires { AreLent (lines_of self.old) line self.old.workers parts.items }
+        ensures lines { (old : LineValue) → lines_of self.old line ≡ Some old
+            → Sets (lines_of self.old) line (Some (with_parts old parts.items)) (lines_of self.new) }
+        ensures net { self.new.net ≡ self.old.net }
+        ensures workers { self.new.workers ≡ self.old.workers }
+    {
+        replace_parts(&mut self.lines, line, parts);
     }
 
     /// Ends it: the lines are gone, and their blocks stay in the pools until those end.

@@ -1,16 +1,16 @@
 use Rattle.lop_chain.specs.declared.script_op.ScriptOp.{ScriptOp}
-use Rattle.std.proofs.Common.{rules, arith, ◌≡◌, ℕ, ◌<◌, List, length, sym, ap, ◌∙◌, subst}
+use Rattle.std.proofs.Common.{rules, arith, ◌≡◌, ℕ, ◌<◌, List, length, map, sym, ap, ◌∙◌, subst}
 use Rattle.std.specs.Prelude.{All}
 use Rattle.std.specs.List.{AllZip}
 use Rattle.lop_chain.specs.Operands.{root_in}
 use Rattle.lop_chain.specs.Ops.{ops_in}
 use Rattle.scatter.specs.Feeds.{FeedValue}
 use Rattle.scatter.specs.Lines.{LineValue, AreChainsOf, lines_in, HasRoot, IsFedFrom, root_feeds, root_kinds}
-use Rattle.scatter.specs.Stocks.{StockValue, lines_of, IsLine, AreLines, IsPartOf, FeedsAreInPools}
+use Rattle.scatter.specs.Stocks.{StockValue, stock_value, lines_of, IsToRestore, IsLine, AreLines, IsPartOf, FeedsAreInPools}
 use Rattle.std.specs.BTreeMap.{BTreeMap}
 use Rattle.scatter.specs.declared.line.Line.{Line}
-use Rattle.scatter.proofs.Results.{IfOk-map, OnOk-map, on_each}
-use Rattle.scatter.proofs.Rooted.{feed_rows, FeedHasKinds, root_count, root_kinds_are, root_rows_are, root_pools, fed_still, lent_line, lent_pools}
+use Rattle.scatter.proofs.Results.{IfOk-map, IfOk-with, OnOk-map, on_each}
+use Rattle.scatter.proofs.Rooted.{feed_rows, FeedHasKinds, root_count, root_kinds_are, root_rows_are, root_pools, fed_still, lent_line, lent_pools, to_restore}
 use Rattle.scatter.proofs.stock.Stock.feeds.Goals as goal
 
 pub returns-clause-feeds : goal.returns-clause-feeds
@@ -76,3 +76,15 @@ returns-clause-pools g c =
     OnOk-map c.feed_root.result _ _ (λ fed pools all.
     let P : LineValue → Type 0 = λ line. AllZip IsPartOf pools line.parts in
     fed_still P (λ line zip. lent_pools pools line.parts zip) (lines_of c.args.self.now) (lines_in c.feed_root.new.lines) root c.args.last c.requires (subst G c.self.view_is fed) all) c.feed_root.ensures.lines
+
+pub returns-clause-lent : goal.returns-clause-lent
+returns-clause-lent g c =
+    let root = root_in c.args.operand.now.root in
+    let ops = ops_in c.args.operand.now.chain.items in
+    let last = c.args.last in
+    let P : StockValue g.row.X.Denot → Type 0 = λ s. AreLines s.workers (lines_of s) in
+    let G : StockValue g.row.X.Denot → Type 0 = λ s. IsFedFrom (lines_of s) root last (lines_in c.feed_root.new.lines) in
+    let W : StockValue g.row.X.Denot → List FeedValue → Type 0 = λ s feeds. IsToRestore root last (lines_in c.feed_root.new.lines) s.workers (map (λ (f : FeedValue). f.keeps) feeds) in
+    IfOk-with c.feed_root.result _ (λ feeds. W (stock_value c.self.inside) feeds.items) _ (λ feeds is fed.
+    let there = to_restore (lines_of c.args.self.now) (lines_in c.feed_root.new.lines) c.args.self.now.workers ops root last (subst P c.self.view_is c.self.invariant.lines) c.requires (subst G c.self.view_is fed) in
+    subst (λ s. W s feeds.items) (sym c.self.view_is) (subst (W c.args.self.now) (sym is) there)) (returns-clause-feeds g c) c.feed_root.ensures.lines
