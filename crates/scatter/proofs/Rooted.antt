@@ -16,7 +16,7 @@ use Rattle.collective.specs.Shares.{share_of, shares_of}
 use Rattle.collective.proofs.ShareLaws.{shares_joined}
 use Rattle.scatter.specs.Feeds.{FeedValue, number_rows, part_feed, number_feed}
 use Rattle.scatter.specs.Lines.{LineValue, Lines, Sets, HasKinds, first_kinds, with_parts, all_lent, files_in, files_of, HasRoot, root_rows, root_kinds, root_feeds, IsFedFrom}
-use Rattle.scatter.specs.Stocks.{PartHasKinds, IsLine, AreLines, IsPartOf, AreInPools, FeedsAreInPools, AreLent, IsToRestore}
+use Rattle.scatter.specs.Stocks.{PartHasKinds, IsLine, AreLines, IsPartOf, AreInPools, FeedsAreInPools, IsToRestore}
 use Rattle.scatter.specs.Phases.{IsRestored, IsUsed}
 use Rattle.scatter.specs.Begun.{IsNew}
 

@@ -1,12 +1,11 @@
 -- Rows of a feed that are sent, one step after another.
-use Rattle.std.proofs.Common.{◌≡◌, ◌+◌, ◌<◌, true, false, List, [], ◌∷◌, ◌++◌, length, suc, refl, sym, ap, subst, ◌∙◌, arith, append_assoc, append-nil, length-append, zero-add, Result, Ok, Err, IfOk, OnOk, IfErr}
-use Rattle.std.specs.Prelude.{All, Bool}
-use Rattle.std.specs.Bool.{OnTrue, OnFalse}
+use Rattle.std.proofs.Common.{◌≡◌, true, false, List, [], ◌∷◌, ◌++◌, length, refl, sym, ap, subst, ◌∙◌, arith, append_assoc, append-nil, length-append, Result, Ok, Err, OnOk}
+use Rattle.std.specs.Prelude.{All}
 use Rattle.std.proofs.lemmas.List.Elements.{All-nil, All-cons, All-append}
 use Rattle.std.proofs.lemmas.List.Concat.{flat_map-append}
 use Rattle.row_defs.specs.Rows.{Row}
 use Rattle.row_defs.specs.LocalOps.{LocalOp, rows_through}
-use Rattle.block_pool.specs.Handles.{PoolName, HandValue, AreOfPool, Follows}
+use Rattle.block_pool.specs.Handles.{PoolName, HandValue, AreOfPool}
 use Rattle.lop_chain.specs.Rows.{Kinds, IsRowOf}
 use Rattle.lop_chain.specs.Ops.{rows_from}
 use Rattle.lop_chain.specs.declared.sink.RowSink.{Ghosts}
@@ -19,7 +18,7 @@ use Rattle.scatter.specs.Feeds.{FeedValue}
 use Rattle.scatter.specs.Fitting.{RestsOnHands, CanFeed}
 use Rattle.scatter.specs.Steps.{IsTold, IsSameFeed, GivesRow, IsFed, IsAtEnd, IsUnfed, NotFed}
 use Rattle.scatter.specs.Sends.{GivesRows, IsSent, IsCutOff, Unsent, HoldsStill, CanSend, Goes, HasLaws}
-use Rattle.scatter.specs.SendLaws.{unsent_from, hit_from}
+use Rattle.scatter.specs.SendLaws.{unsent_from}
 
 -- rows that are given
 gives_none : (pool : PoolName) (f h : FeedValue) → length h.left ≡ length f.left → (IsTold pool f → h.left ≡ f.left) → GivesRows pool f [] h

@@ -1,11 +1,10 @@
 -- The turns of a phase, of the works before and after it.
-use Rattle.std.proofs.Common.{◌≡◌, ℕ, zero, suc, ◌+◌, ◌<◌, ◌≤◌, List, [], ◌∷◌, map, length, Some, None, false, refl, sym, ap, subst, ◌∙◌, arith, vec_len, Result, Ok, Err, OnOk, IfErr}
+use Rattle.std.proofs.Common.{◌≡◌, ℕ, zero, suc, ◌+◌, List, [], ◌∷◌, map, Some, refl, sym, ap, subst, ◌∙◌, arith, Result, Ok, Err, OnOk, IfErr}
 use Rattle.std.specs.Prelude.{All, slice_get}
 use Rattle.std.specs.List.{AllZip}
 use Rattle.std.proofs.lemmas.List.Elements.{All-nil, All-cons, All-head, All-tail}
 use Rattle.block_pool.specs.Handles.{HandValue, AreOfPool, Follows}
 use Rattle.block_pool.specs.Follows.{follows_trans}
-use Rattle.dia_file.specs.Files.{FileValue}
 use Rattle.row_defs.specs.LocalOps.{LocalOp, AreSoundOps}
 use Rattle.lop_chain.specs.Rows.{Kinds}
 use Rattle.lop_chain.specs.declared.sink.RowSink.{Ghosts}
@@ -18,7 +17,7 @@ use Rattle.scatter.specs.declared.feed_err.FeedErr.TheVariants.{NoMemory}
 use Rattle.scatter.specs.declared.sending.Sending.{Sending}
 use Rattle.scatter.specs.Feeds.{FeedValue}
 use Rattle.scatter.specs.Fitting.{RestsOnHands, CanFeed}
-use Rattle.scatter.specs.Sends.{IsSent, IsAllSent, Unsent, CanSend, CanGoOn, HasGone, Goes, HoldsStill, HasLaws}
+use Rattle.scatter.specs.Sends.{IsSent, Unsent, CanSend, CanGoOn, HasLaws}
 use Rattle.scatter.specs.SendLaws.{same_feed_refl}
 use Rattle.scatter.specs.Stocks.{FeedsAreInPools}
 use Rattle.scatter.proofs.SentRows.{sent_start}

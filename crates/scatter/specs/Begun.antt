@@ -1,5 +1,5 @@
 -- A phase that has begun.
-use Rattle.std.specs.Prelude.{◌≡◌, ◌≤◌, ℕ, List, map, All, length, vec_len}
+use Rattle.std.specs.Prelude.{◌≡◌, ◌≤◌, ℕ, List, map, All, vec_len}
 use Rattle.std.specs.List.{AllZip}
 use Rattle.row_defs.specs.LocalOps.{LocalOp}
 use Rattle.block_pool.specs.Handles.{HandValue}

@@ -1,5 +1,5 @@
 -- What a phase leaves of the works that send.
-use Rattle.std.specs.Prelude.{◌≡◌, ◌+◌, ◌<◌, ◌≤◌, ℕ, Bool, true, false, List, [], ◌∷◌, map, All, ⊤, Option, None, Some, Result, Ok, Err, slice_get, vec_len, vec_capacity}
+use Rattle.std.specs.Prelude.{◌≡◌, ◌+◌, ◌<◌, ◌≤◌, ℕ, Bool, true, false, List, [], ◌∷◌, map, ⊤, Option, None, Some, Result, Ok, Err, slice_get, vec_len, vec_capacity}
 use Rattle.row_defs.specs.Operands.{Root, stored_root, count_root}
 use Rattle.std.specs.List.{AllZip}
 use Rattle.block_pool.specs.Handles.{PoolName, HandValue, AreOfPool, Follows}

@@ -1,15 +1,15 @@
 -- Feeds and sinks that go on, one step after another.
-use Rattle.std.specs.Prelude.{◌≡◌, ◌+◌, ◌<◌, true, false, refl}
-use Rattle.std.proofs.Common.{sym, ap, subst, ◌∙◌, arith}
-use Rattle.block_pool.specs.Handles.{HandValue, AreOfPool, HasHit, Follows}
+use Rattle.std.specs.Prelude.{refl}
+use Rattle.std.proofs.Common.{ap, subst, ◌∙◌, arith}
+use Rattle.block_pool.specs.Handles.{HandValue, HasHit, Follows}
 use Rattle.block_pool.specs.Follows.{follows_refl, follows_trans}
 use Rattle.lop_chain.specs.declared.sink.RowSink.{Ghosts}
 use Rattle.row_defs.specs.Rows.{Row}
 use Rattle.scatter.specs.declared.feed_err.FeedErr.{FeedErr}
 use Rattle.scatter.specs.declared.feed_err.FeedErr.TheVariants.{Sink, Disk, Damaged, NoMemory}
 use Rattle.scatter.specs.Feeds.{FeedValue}
-use Rattle.scatter.specs.Steps.{IsTold, IsSameFeed}
-use Rattle.scatter.specs.Sends.{GivesRows, IsSent, IsCutOff, Unsent, HoldsStill, Goes, HasGone}
+use Rattle.scatter.specs.Steps.{IsSameFeed}
+use Rattle.scatter.specs.Sends.{GivesRows, IsSent, Unsent, Goes, HasGone}
 
 pub same_feed_refl : (f : FeedValue) → IsSameFeed f f
 same_feed_refl f = record { kinds = refl; ops = refl; keeps = refl; pins = refl }

@@ -1,4 +1,4 @@
-use Rattle.std.proofs.Common.{rules, ◌≡◌, ◌+◌, length, false, subst, arith}
+use Rattle.std.proofs.Common.{rules, ◌≡◌, false, subst, arith}
 use Rattle.block_pool.specs.Handles.{PoolName}
 use Rattle.lop_chain.specs.Rows.{Kinds}
 use Rattle.scatter.specs.Fitting.{CanFeed}

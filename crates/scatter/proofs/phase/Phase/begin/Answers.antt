@@ -1,4 +1,4 @@
-use Rattle.std.proofs.Common.{rules, ◌≡◌, List, length, map, sym, ap, subst, ◌∙◌, arith, vec_len}
+use Rattle.std.proofs.Common.{rules, ◌≡◌, length, map, sym, subst, ◌∙◌, arith, vec_len}
 use Rattle.std.specs.Prelude.{All}
 use Rattle.std.proofs.lemmas.List.{length-map}
 use Rattle.block_pool.specs.Handles.{HandValue}
@@ -6,7 +6,7 @@ use Rattle.lop_chain.specs.Operands.{root_in}
 use Rattle.lop_chain.specs.Ops.{ops_in}
 use Rattle.scatter.specs.Feeds.{FeedValue}
 use Rattle.scatter.specs.Lines.{IsFedFrom, root_kinds, root_feeds}
-use Rattle.scatter.specs.Stocks.{lines_of, FeedsAreInPools, IsToRestore}
+use Rattle.scatter.specs.Stocks.{lines_of, FeedsAreInPools}
 use Rattle.scatter.specs.Phases.{AllThree, HasBegun, HasRoomFor, pools_of, file_kept}
 use Rattle.scatter.specs.Begun.{IsNew}
 use Rattle.scatter.proofs.Rooted.{root_new, root_ops, GoesThrough}

@@ -1,14 +1,13 @@
-use Rattle.std.proofs.Common.{rules, ◌≡◌, List, length, map, inl, inr, refl, sym, ap, subst, ◌∙◌, arith, vec_len, Option}
+use Rattle.std.proofs.Common.{◌≡◌, List, length, map, inl, inr, refl, sym, ap, subst, ◌∙◌, arith, Option}
 use Rattle.std.specs.Prelude.{◌⊎◌}
 use Rattle.std.specs.List.{AllZip}
-use Rattle.block_pool.specs.Handles.{HandValue}
 use Rattle.dia_file.specs.Files.{FileValue}
 use Rattle.lent_step.specs.Lending.{IsFaultAt}
 use Rattle.lop_chain.specs.Operands.{root_in}
 use Rattle.scatter.specs.declared.feed_err.FeedErr.TheVariants.{NoMemory}
 use Rattle.scatter.specs.Feeds.{FeedValue}
 use Rattle.scatter.specs.Stocks.{lines_of, IsToRestore}
-use Rattle.scatter.specs.Phases.{AllThree, HasBegun, IsOwn, IsEnded, HasRoomFor, file_kept, sink_in, Gone, Done, Faulted, HasSent, HasStopped}
+use Rattle.scatter.specs.Phases.{AllThree, HasBegun, IsOwn, IsEnded, Gone, Done, Faulted, HasSent, HasStopped}
 use Rattle.scatter.proofs.Threes.{three_long, ran_long}
 use Rattle.scatter.proofs.Rooted.{used, whole_again}
 use Rattle.scatter.proofs.Turns.{still_own, same_keeps, begun_keeps, has_sent, has_stopped, ran_follow, hands_follow, sinks_stay, flat_ok, flat_err}

@@ -1,6 +1,6 @@
 use Rattle.std.proofs.Common.{sym, subst}
 use Rattle.block_pool.specs.Handles.{PoolName}
-use Rattle.scatter.specs.Sends.{IsSent, CanSend, CanGoOn, IsAllSent, Unsent}
+use Rattle.scatter.specs.Sends.{IsSent, CanGoOn, IsAllSent, Unsent}
 use Rattle.scatter.specs.SendLaws.{same_feed_trans}
 use Rattle.scatter.proofs.Results.{IfErr-map}
 use Rattle.scatter.proofs.SentRows.{sent_more, unsent_on, more_of, done_of}
