@@ -26,7 +26,7 @@ pub use laws::{
 };
 pub use order::compare;
 pub use own_row::OwnRow;
-pub use reading::read_row;
+pub use reading::{known_row, read_row};
 pub use row_buf::{LONGEST_ROW, RowBuf};
 pub use row_defs::Kind;
 pub use row_ref::RowRef;

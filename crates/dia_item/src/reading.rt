@@ -30,3 +30,15 @@ pub fn read_row<'a>(kinds: &Kinds, bytes: &'a [u8]) -> Option<(RowRef<'a>, usize
         n,
     ))
 }
+
+/// The row that these bytes are, where it is known that they are one: they aren't read again.
+#[inline]
+pub fn known_row<'a>(kinds: &Kinds, bytes: &'a [u8]) -> RowRef<'a>
+    requires { (row : Row) × IsRow (kind_list kinds.now) bytes.now row }
+    ensures { (row : Row) → IsRow (kind_list kinds.now) bytes.entry.now row → row_in_ref result ≡ row }
+{
+    RowRef {
+        kinds: *kinds,
+        bytes,
+    }
+}

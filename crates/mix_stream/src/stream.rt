@@ -6,7 +6,7 @@ ghost use Rattle.dia_item.specs.Lent.{row_in_ref};
 ghost use Rattle.mix_stream.specs.Streams.{shown_bytes, IsAt};
 
 use block_pool::Pinned;
-use dia_item::{Kinds, RowRef, read_row};
+use dia_item::{Kinds, RowRef, known_row};
 use multiplexer::Packet;
 use std::collections::VecDeque;
 
@@ -63,8 +63,5 @@ pub(crate) fn row_at<'r>(stream: &'r Stream, place: &RowPlace) -> RowRef<'r>
     requires { (row : Row) × (bytes : List ℕ) × IsAt stream.now place.now bytes × IsRow (kind_list stream.now.kinds) bytes row }
     ensures { (row : Row) (bytes : List ℕ) → IsAt stream.entry.now place.entry.now bytes → IsRow (kind_list stream.entry.now.kinds) bytes row → row_in_ref result ≡ row }
 {
-    match read_row(&stream.kinds, bytes_at(stream, place)) {
-        Some((row, _)) => row,
-        None => unreachable!(),
-    }
+    known_row(&stream.kinds, bytes_at(stream, place))
 }
