@@ -16,8 +16,8 @@ use Rattle.dia_lines.specs.declared.cutter.TakeErr.{TakeErr}
 use Rattle.dia_lines.specs.declared.cutter.TakeErr.TheVariants as takes
 use Rattle.dia_lines.specs.declared.input.InputErr.{InputErr}
 use Rattle.dia_lines.specs.declared.input.InputErr.TheVariants.{Missing, LineTooLong, InputTooLong, Refused, Read, NoMemory}
-use Rattle.dia_lines.specs.Taking.{is_text, AreTaken, HasTaken, IsLong, IsTurnedAway, IsCut, TookAllOf}
-use Rattle.dia_lines.specs.Inputs.{AskedSome, Asks, IsReading, IsInputReason, TookInput, reason_of}
+use Rattle.dia_lines.specs.Taking.{is_text, AreTaken, HasTaken, IsLong, IsTurnedAway, RefusedLine, IsOfTaker, IsCut, TookAllOf}
+use Rattle.dia_lines.specs.Inputs.{AskedSome, Asks, IsReading, IsInputReason, IsTakersOwn, TookInput, reason_of}
 use Rattle.dia_lines.proofs.TakeLemmas.{list_all-push}
 
 take-append-past : (n : ℕ) (xs ys : List ℕ) → length xs ≤ n → take n (xs ++ ys) ≡ xs ++ take (n - length xs) ys
@@ -230,3 +230,20 @@ asked_here s (Err e) old at now name asked same = ([], record { done = name ∷ 
 -- nothing was asked for
 pub asked_nothing : {N : Type 0} (s : shelves.Ghosts N) (old now : N) (names : List (List ℕ)) → s.asked now ≡ s.asked old → AskedSome s old now names
 asked_nothing s old now names same = (names, record { done = []; parts = refl; is = same ∙ asked_none (s.asked old) })
+
+-- a refusal is the taker's own from each desk that the later one follows
+pub own_before :
+    {T D R : Type 0} (g : Ghosts T D R)
+    → ((s t : T) (a b c : D) (line : List ℕ) (e : R) → g.follows a b → g.refused s b line e t c → g.refused s a line e t c)
+    → (u : T) (a m b : D) (e : InputErr R) → g.follows a m → IsTakersOwn g m u b e → IsTakersOwn g a u b e
+own_before g from u a m b Missing f h = tt
+own_before g from u a m b (LineTooLong line) f h = tt
+own_before g from u a m b InputTooLong f h = tt
+own_before g from u a m b (Refused e) f h = record { at = h.at; line = h.line; refused = from h.at u a m b h.line e f h.refused }
+own_before g from u a m b (Read count) f h = tt
+own_before g from u a m b NoMemory f h = tt
+
+-- a piece that isn't taken
+pub own_piece : {T D R : Type 0} (g : Ghosts T D R) (a : D) (u : T) (b : D) (e : TakeErr R) → IsOfTaker g a u b e → IsTakersOwn g a u b (reason_of e)
+own_piece g a u b (takes.LineTooLong n) h = tt
+own_piece g a u b (takes.Refused e) h = h

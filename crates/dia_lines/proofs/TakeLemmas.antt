@@ -6,7 +6,7 @@ use Rattle.row_defs.specs.Limits.{longest_text}
 use Rattle.row_defs.specs.Pieces.{pieces_from, lines_of, line_feed}
 use Rattle.dia_text.specs.Unbroken.{IsUnbroken}
 use Rattle.dia_text.proofs.PieceLemmas.{pieces-at, pieces-begin}
-use Rattle.dia_lines.specs.Taking.{is_text, AreTaken, HasTaken, IsLong, IsTurnedAway, IsTakeReason, Consumes, IsCut, TookAllOf}
+use Rattle.dia_lines.specs.Taking.{is_text, AreTaken, HasTaken, IsLong, IsTurnedAway, RefusedLine, IsOfTaker, IsTakeReason, Consumes, IsCut, TookAllOf}
 use Rattle.dia_lines.specs.declared.line_taker.LineTaker.{Ghosts}
 use Rattle.dia_lines.specs.declared.cutter.Cutter.{Cutter}
 use Rattle.dia_lines.specs.declared.cutter.TakeErr.{TakeErr}
@@ -231,3 +231,11 @@ module _ {T D R : Type 0} (g : Ghosts T D R) where
       → IfErr r (λ e. (began : T) (seen : List ℕ) → HasTaken g began now c seen → IsTurnedAway g began a u b e seen)
   read_refused_of now u a b c (Ok done) some refused = tt
   read_refused_of now u a b c (Err e) some refused = λ began seen taken. read_refused began now u a b c.ended c.run.items seen e taken some refused
+
+-- a refusal is the taker's own from each desk that the later one follows
+pub taker_before :
+    {T D R : Type 0} (g : Ghosts T D R)
+    → ((s t : T) (a b c : D) (line : List ℕ) (e : R) → g.follows a b → g.refused s b line e t c → g.refused s a line e t c)
+    → (u : T) (a m b : D) (e : TakeErr R) → g.follows a m → IsOfTaker g m u b e → IsOfTaker g a u b e
+taker_before g from u a m b (LineTooLong n) f h = tt
+taker_before g from u a m b (Refused e) f h = record { at = h.at; line = h.line; refused = from h.at u a m b h.line e f h.refused }

@@ -12,7 +12,7 @@ use Rattle.dia_lines.specs.declared.cutter.TakeErr.{TakeErr}
 use Rattle.dia_lines.specs.declared.cutter.TakeErr.TheVariants as takes
 use Rattle.dia_lines.specs.declared.input.InputErr.{InputErr}
 use Rattle.dia_lines.specs.declared.input.InputErr.TheVariants.{Missing, LineTooLong, InputTooLong, Refused, Read, NoMemory}
-use Rattle.dia_lines.specs.Taking.{HasTaken, IsTurnedAway}
+use Rattle.dia_lines.specs.Taking.{HasTaken, IsTurnedAway, RefusedLine}
 
 -- what each call keeps of a shelf
 abbrev pub Stays : {N : Type 0} → shelves.Ghosts N → N → N → Type 0
@@ -51,6 +51,11 @@ IsInputCause InputTooLong held = failure_of_input held ≡ Some input_too_long
 IsInputCause (Refused e) held = Unit {0}
 IsInputCause (Read count) held = Unit {0}
 IsInputCause NoMemory held = Unit {0}
+
+-- where a refusal is the taker's own, it refused some line
+abbrev pub IsTakersOwn : {T D R : Type 0} → Ghosts T D R → D → T → D → InputErr R → Type 0
+IsTakersOwn g a now b (Refused e) = RefusedLine g a now b e
+IsTakersOwn g a now b _ = Unit {0}
 
 -- the rows are those of the input's lines, and nothing keeps them from being read
 pub record IsInput (rows : List Row) (held : Option (List ℕ)) : Type 0 where

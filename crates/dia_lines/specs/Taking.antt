@@ -45,6 +45,17 @@ abbrev pub IsTakeReason : {T D R : Type 0} → Ghosts T D R → T → D → T �
 IsTakeReason g began a now b (LineTooLong n) seen = IsLong n seen
 IsTakeReason g began a now b (Refused e) seen = (more : List ℕ) → IsTurnedAway g began a now b e (seen ++ more)
 
+-- the taker refused some line
+pub record RefusedLine {T D R : Type 0} (g : Ghosts T D R) (a : D) (now : T) (b : D) (e : R) : Type 0 where
+  pub at : T  -- the taker when the line was refused
+  pub line : List ℕ
+  pub refused : g.refused at a line e now b
+
+-- where a refusal is the taker's own, it refused some line
+abbrev pub IsOfTaker : {T D R : Type 0} → Ghosts T D R → D → T → D → TakeErr R → Type 0
+IsOfTaker g a now b (LineTooLong n) = Unit {0}
+IsOfTaker g a now b (Refused e) = RefusedLine g a now b e
+
 -- some prefix of the bytes was taken, and the rest is left
 pub record Consumes {T D R : Type 0} (g : Ghosts T D R) (t : T) (before : Cutter) (u : T) (after : Cutter) (bytes rest : List ℕ) : Type 0 where
   pub prefix : List ℕ

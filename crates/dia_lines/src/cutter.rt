@@ -1,6 +1,6 @@
 //! Cuts an input that comes in pieces into its lines.
 ghost use Rattle.std.specs.Prelude.{◌≡◌, ◌≤◌, vec_len, vec_capacity};
-ghost use Rattle.row_defs.specs.Limits.{longest_text};
+ghost use Rattle.row_defs.specs.Limits.{longest_text, most_rows};
 
 use crate::line_taker::LineTaker;
 use dia_edge::NoMemory;
@@ -31,7 +31,7 @@ pub(crate) struct Cutter {
 impl Cutter {
     ghost use Rattle.std.specs.Prelude.{◌≡◌, ◌+◌, ◌≤◌, ◌<◌, ◌++◌, ◌∷◌, ◌^◌, ◌-◌, [], ℕ, List, length, take, drop, IfOk, IfErr, OnOk};
     ghost use Rattle.row_defs.specs.Pieces.{line_feed};
-    ghost use Rattle.dia_lines.specs.Taking.{HasTaken, IsTakeReason, Consumes, IsCut, TookAllOf, IsTurnedAway};
+    ghost use Rattle.dia_lines.specs.Taking.{HasTaken, IsOfTaker, IsTakeReason, Consumes, IsCut, RefusedLine, TookAllOf, IsTurnedAway};
     ghost use Rattle.dia_text.specs.Unbroken.{IsUnbroken};
 
     pub(crate) fn new(alloc: Global) -> Result<Cutter, NoMemory>
@@ -52,15 +52,19 @@ impl Cutter {
         desk: &mut T::Desk,
         bytes: &[u8],
     ) -> Result<(), TakeErr<T::Refusal>>
-        requires few { self.old.ended < 2 ^ 63 }
+        requires few { self.old.ended < most_rows }
         requires unbroken { IsUnbroken line_feed bytes.now }
+        requires count { T.count taker.old ≡ self.old.ended }
         requires serves { T.serves taker.old desk.old }
         ensures ok { OnOk result ((began : T) (seen : List ℕ) → HasTaken T.LineTaker began taker.old self.old seen
             → HasTaken T.LineTaker began taker.new self.new (seen ++ (bytes.now ++ line_feed ∷ []))) }
         ensures refused { IfErr result (λ e. (began : T) (seen : List ℕ) → HasTaken T.LineTaker began taker.old self.old seen
             → IsTakeReason T.LineTaker began desk.old taker.new desk.new e (seen ++ (bytes.now ++ line_feed ∷ []))) }
         ensures ended { OnOk result (self.new.ended ≡ self.old.ended + 1) }
+        ensures count { OnOk result (T.count taker.new ≡ self.new.ended) }
         ensures serves { OnOk result (T.serves taker.new desk.new) }
+        ensures own { IfErr result (λ e. IsOfTaker T.LineTaker desk.old taker.new desk.new e) }
+        ensures keeps { T.keeps taker.old desk.old taker.new desk.new }
         ensures follows { T.follows desk.old desk.new }
     {
         if bytes.len() > LONGEST_TEXT - self.run.len() {
@@ -78,12 +82,13 @@ impl Cutter {
 
     /// Bytes of a line that goes on.
     fn go_on<T: LineTaker>(&mut self, bytes: &[u8]) -> Result<(), TakeErr<T::Refusal>>
-        requires few { self.old.ended < 2 ^ 63 }
+        requires few { self.old.ended < most_rows }
         requires unbroken { IsUnbroken line_feed bytes.now }
         ensures ok { OnOk result ((began t : T) (seen : List ℕ) → HasTaken T.LineTaker began t self.old seen → HasTaken T.LineTaker began t self.new (seen ++ bytes.now)) }
         ensures refused { IfErr result (λ e. (began t : T) (a b : T.Desk) (seen : List ℕ) → HasTaken T.LineTaker began t self.old seen
             → IsTakeReason T.LineTaker began a t b e (seen ++ bytes.now)) }
         ensures ended { OnOk result (self.new.ended ≡ self.old.ended) }
+        ensures own { IfErr result (λ e. (t : T) (a b : T.Desk) → IsOfTaker T.LineTaker a t b e) }
     {
         if bytes.len() > LONGEST_TEXT - self.run.len() {
             return Err(TakeErr::LineTooLong(self.ended + 1));
@@ -100,15 +105,19 @@ impl Cutter {
         desk: &mut T::Desk,
         bytes: &'b [u8],
     ) -> Result<&'b [u8], TakeErr<T::Refusal>>
-        requires few { self.old.ended < 2 ^ 63 }
+        requires few { self.old.ended < most_rows }
         requires some { 0 < length bytes.now }
+        requires count { T.count taker.old ≡ self.old.ended }
         requires serves { T.serves taker.old desk.old }
         ensures ok { IfOk result (λ rest. Consumes T.LineTaker taker.old self.old taker.new self.new bytes.now rest.now) }
         ensures shorter { IfOk result (λ rest. length rest.now < length bytes.now) }
         ensures refused { IfErr result (λ e. (began : T) (seen : List ℕ) → HasTaken T.LineTaker began taker.old self.old seen
             → IsCut T.LineTaker began desk.old taker.new desk.new e seen bytes.now) }
         ensures ended { OnOk result (self.new.ended ≤ self.old.ended + 1) }
+        ensures count { OnOk result (T.count taker.new ≡ self.new.ended) }
         ensures serves { OnOk result (T.serves taker.new desk.new) }
+        ensures own { IfErr result (λ e. IsOfTaker T.LineTaker desk.old taker.new desk.new e) }
+        ensures keeps { T.keeps taker.old desk.old taker.new desk.new }
         ensures follows { T.follows desk.old desk.new }
     {
         match find_separator(b'\n', bytes) {
@@ -133,13 +142,17 @@ impl Cutter {
         desk: &mut T::Desk,
         piece: &[u8],
     ) -> Result<(), TakeErr<T::Refusal>>
-        requires few { self.old.ended + length piece.now < 2 ^ 63 }
+        requires few { self.old.ended + length piece.now < most_rows }
+        requires count { T.count taker.old ≡ self.old.ended }
         requires serves { T.serves taker.old desk.old }
         ensures ok { OnOk result ((began : T) (seen : List ℕ) → HasTaken T.LineTaker began taker.old self.old seen → HasTaken T.LineTaker began taker.new self.new (seen ++ piece.now)) }
         ensures refused { IfErr result (λ e. (began : T) (seen : List ℕ) → HasTaken T.LineTaker began taker.old self.old seen
             → IsCut T.LineTaker began desk.old taker.new desk.new e seen piece.now) }
         ensures ended { OnOk result (self.new.ended ≤ self.old.ended + length piece.now) }
+        ensures count { OnOk result (T.count taker.new ≡ self.new.ended) }
         ensures serves { OnOk result (T.serves taker.new desk.new) }
+        ensures own { IfErr result (λ e. IsOfTaker T.LineTaker desk.old taker.new desk.new e) }
+        ensures keeps { T.keeps taker.old desk.old taker.new desk.new }
         ensures follows { T.follows desk.old desk.new }
     {
         let mut rest = piece;
@@ -156,11 +169,15 @@ impl Cutter {
         taker: &mut T,
         desk: &mut T::Desk,
     ) -> Result<(), T::Refusal>
+        requires few { self.now.ended < most_rows }
+        requires count { T.count taker.old ≡ self.now.ended }
         requires serves { T.serves taker.old desk.old }
         ensures ok { OnOk result ((began : T) (seen : List ℕ) → HasTaken T.LineTaker began taker.old self.now seen → TookAllOf T.LineTaker began taker.new seen) }
         ensures refused { IfErr result (λ e. (began : T) (seen : List ℕ) → HasTaken T.LineTaker began taker.old self.now seen
             → IsTurnedAway T.LineTaker began desk.old taker.new desk.new e seen) }
         ensures serves { OnOk result (T.serves taker.new desk.new) }
+        ensures own { IfErr result (λ e. RefusedLine T.LineTaker desk.old taker.new desk.new e) }
+        ensures keeps { T.keeps taker.old desk.old taker.new desk.new }
         ensures follows { T.follows desk.old desk.new }
     {
         if self.run.is_empty() {

@@ -3,7 +3,7 @@ ghost use Rattle.std.specs.Prelude.{◌≡◌, ◌+◌, ◌≤◌, ◌<◌, ◌�
 ghost use Rattle.row_defs.specs.Pieces.{line_rows};
 ghost use Rattle.dia_edge.specs.Shelves.{IsAtEnd};
 ghost use Rattle.dia_lines.specs.Taking.{HasTaken, TookAllOf};
-ghost use Rattle.dia_lines.specs.Inputs.{Stays, Asks, IsInputReason, IsReading, TookInput, TookOpened, IsReadFault, IsInput, IsInputCause, reason_of};
+ghost use Rattle.dia_lines.specs.Inputs.{Stays, Asks, IsInputReason, IsReading, TookInput, TookOpened, IsReadFault, IsInput, IsInputCause, IsTakersOwn, reason_of};
 
 use crate::cutter::{Cutter, TakeErr};
 use crate::line_rows::LineRows;
@@ -86,6 +86,7 @@ fn take_piece<R: Wait, N: Shelf, T: LineTaker>(
     requires total { total ≤ LONGEST_INPUT }
     requires few { cutter.old.ended ≤ total }
     requires buffer { length buffer.old ≡ PIECE }
+    requires count { T.count taker.old ≡ cutter.old.ended }
     requires serves { T.serves taker.old desk.old }
     ensures ok { IfOk result (λ n. (began : T) (all : Option (List ℕ)) → IsReading T.LineTaker all began taker.old cutter.old total (N.left shelf.old)
         → IsReading T.LineTaker all began taker.new cutter.new (total + n) (N.left shelf.new)) }
@@ -97,7 +98,10 @@ fn take_piece<R: Wait, N: Shelf, T: LineTaker>(
     ensures fault { IfErr result (λ e. IsReadFault e (N.faults shelf.old) (N.faults shelf.new)) }
     ensures stays { Stays N.Shelf shelf.old shelf.new }
     ensures asked { N.asked shelf.new ≡ N.asked shelf.old }
+    ensures count { OnOk result (T.count taker.new ≡ cutter.new.ended) }
     ensures serves { OnOk result (T.serves taker.new desk.new) }
+    ensures own { IfErr result (λ e. IsTakersOwn T.LineTaker desk.old taker.new desk.new e) }
+    ensures keeps { T.keeps taker.old desk.old taker.new desk.new }
     ensures follows { T.follows desk.old desk.new }
 {
     let room = room_after(total);
@@ -139,6 +143,7 @@ fn take_all<R: Wait, N: Shelf, T: LineTaker>(
     requires taken { HasTaken T.LineTaker taker.old taker.old cutter.old [] }
     requires none { cutter.old.ended ≡ 0 }
     requires buffer { length buffer.old ≡ PIECE }
+    requires count { T.count taker.old ≡ cutter.old.ended }
     requires serves { T.serves taker.old desk.old }
     ensures ok { IfOk result (λ total. IsReading T.LineTaker (N.left shelf.old) taker.old taker.new cutter.new total (N.left shelf.new) × IsAtEnd (N.left shelf.new)) }
     ensures within { IfOk result (λ total. total ≤ LONGEST_INPUT) }
@@ -146,7 +151,11 @@ fn take_all<R: Wait, N: Shelf, T: LineTaker>(
     ensures fault { IfErr result (λ e. IsReadFault e (N.faults shelf.old) (N.faults shelf.new)) }
     ensures stays { Stays N.Shelf shelf.old shelf.new }
     ensures asked { N.asked shelf.new ≡ N.asked shelf.old }
+    ensures few { OnOk result (cutter.new.ended ≤ LONGEST_INPUT) }
+    ensures count { OnOk result (T.count taker.new ≡ cutter.new.ended) }
     ensures serves { OnOk result (T.serves taker.new desk.new) }
+    ensures own { IfErr result (λ e. IsTakersOwn T.LineTaker desk.old taker.new desk.new e) }
+    ensures keeps { T.keeps taker.old desk.old taker.new desk.new }
     ensures follows { T.follows desk.old desk.new }
 {
     let mut total = 0u64;
@@ -167,6 +176,7 @@ fn take_opened<R: Wait, N: Shelf, T: LineTaker>(
     taker: &mut T,
     desk: &mut T::Desk,
 ) -> Result<(), InputErr<T::Refusal>>
+    requires none { T.count taker.old ≡ 0 }
     requires serves { T.serves taker.old desk.old }
     ensures took { OnOk result (IfSome (N.left shelf.old) (λ bytes. TookInput T.LineTaker taker.old taker.new (Some bytes))) }
     ensures lines { OnOk result ((bytes : List ℕ) × TookAllOf T.LineTaker taker.old taker.new bytes) }
@@ -175,6 +185,8 @@ fn take_opened<R: Wait, N: Shelf, T: LineTaker>(
     ensures stays { Stays N.Shelf shelf.old shelf.new }
     ensures asked { N.asked shelf.new ≡ N.asked shelf.old }
     ensures serves { OnOk result (T.serves taker.new desk.new) }
+    ensures own { IfErr result (λ e. IsTakersOwn T.LineTaker desk.old taker.new desk.new e) }
+    ensures keeps { T.keeps taker.old desk.old taker.new desk.new }
     ensures follows { T.follows desk.old desk.new }
 {
     let mut buffer = new_buffer(alloc)?;
@@ -197,6 +209,7 @@ pub fn read_input<R: Wait, N: Shelf, T: LineTaker>(
     taker: &mut T,
     desk: &mut T::Desk,
 ) -> Result<(), InputErr<T::Refusal>>
+    requires none { T.count taker.old ≡ 0 }
     requires serves { T.serves taker.old desk.old }
     ensures took { N.is_fixed shelf.old ≡ true → OnOk result (IfSome (N.holds shelf.old) (λ held. TookInput T.LineTaker taker.old taker.new (held name.now))) }
     // The lines are those of what the name held when it was opened, whether the shelf is fixed or not.
@@ -209,6 +222,8 @@ pub fn read_input<R: Wait, N: Shelf, T: LineTaker>(
     // The name is asked for once, or, after a refusal, perhaps not at all.
     ensures asked { Asks N.Shelf shelf.old shelf.new (name.now ∷ []) result }
     ensures serves { OnOk result (T.serves taker.new desk.new) }
+    ensures own { IfErr result (λ e. IsTakersOwn T.LineTaker desk.old taker.new desk.new e) }
+    ensures keeps { T.keeps taker.old desk.old taker.new desk.new }
     ensures follows { T.follows desk.old desk.new }
 {
     match shelf.open(name.text()) {

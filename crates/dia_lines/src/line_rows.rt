@@ -35,7 +35,7 @@ impl Model for LineRows {
 }
 
 impl LineTaker for LineRows {
-    ghost use Rattle.std.proofs.Common.{◌≡◌, ◌∙◌, ◌++◌, map, ap, sym, append-nil, append_assoc, List, ℕ};
+    ghost use Rattle.std.proofs.Common.{◌≡◌, ◌∙◌, ◌++◌, map, length, ap, sym, append-nil, append_assoc, List, ℕ};
     ghost use Rattle.std.proofs.lemmas.List.{map-append};
     ghost use Rattle.row_defs.specs.Pieces.{line_row};
     ghost use Rattle.row_defs.specs.Rows.{Row};
@@ -46,9 +46,13 @@ impl LineTaker for LineRows {
 
     ghost took = { λ rows lines now. now ≡ rows ++ map line_row lines };
 
+    ghost count = { λ rows. length rows };
+
     ghost serves = { λ _ _. Unit {0} };
 
     ghost follows = { λ _ _. Unit {0} };
+
+    ghost keeps = { λ _ _ _ _. Unit {0} };
 
     ghost refused = { λ rows _ _ _ now _. now ≡ rows };
 
@@ -72,6 +76,10 @@ impl LineTaker for LineRows {
     ghost follows_refl = { λ _. tt };
 
     ghost follows_trans = { λ _ _ _ _ _. tt };
+
+    ghost keeps_refl = { λ _ _. tt };
+
+    ghost keeps_trans = { λ _ _ _ _ _ _ _ _. tt };
 
     ghost refused_from = { λ _ _ _ _ _ _ _ _ r. r };
 }

@@ -1,6 +1,6 @@
 //! What takes the lines of an input.
-ghost use Rattle.std.specs.Prelude.{◌+◌, ◌≤◌, ◌++◌, ◌∷◌, [], ℕ, List, length, OnOk, IfErr};
-ghost use Rattle.row_defs.specs.Limits.{longest_text};
+ghost use Rattle.std.specs.Prelude.{◌≡◌, ◌+◌, ◌<◌, ◌≤◌, ◌++◌, ◌∷◌, [], ℕ, List, length, OnOk, IfErr};
+ghost use Rattle.row_defs.specs.Limits.{longest_text, most_rows};
 
 use std::sync::Wait;
 
@@ -15,11 +15,17 @@ pub trait LineTaker {
     /// The lines that were taken between an earlier and a later taker, in order, without their ends.
     ghost took: { Self → List (List ℕ) → Self → Type 0 };
 
+    /// How many lines it took.
+    ghost count: { Self → ℕ };
+
     /// Which desks serve it.
     ghost serves: { Self → Self.Desk → Type 0 };
 
     /// A later desk comes of an earlier one.
     ghost follows: { Self.Desk → Self.Desk → Type 0 };
+
+    /// What is kept of a taker and its desk, whether a line is taken or not: before and after.
+    ghost keeps: { Self → Self.Desk → Self → Self.Desk → Type 0 };
 
     /// A line was refused: the taker and the desk before, the line, the refusal, and the taker and the desk after.
     ghost refused: { Self → Self.Desk → List ℕ → Self.Refusal → Self → Self.Desk → Type 0 };
@@ -34,9 +40,12 @@ pub trait LineTaker {
         rest: &[u8],
     ) -> Result<(), Self::Refusal>
         requires text { length prefix.now + length rest.now ≤ longest_text }
+        requires few { count self.old < most_rows }
         requires serves { serves self.old desk.old }
         ensures took { OnOk result (took self.old ((prefix.now ++ rest.now) ∷ []) self.new) }
+        ensures count { OnOk result (count self.new ≡ count self.old + 1) }
         ensures serves { OnOk result (serves self.new desk.new) }
+        ensures keeps { keeps self.old desk.old self.new desk.new }
         ensures refused { IfErr result (λ e. refused self.old desk.old (prefix.now ++ rest.now) e self.new desk.new) }
         ensures follows { follows desk.old desk.new };
 
@@ -47,6 +56,10 @@ pub trait LineTaker {
     ghost follows_refl: { (d : Self.Desk) → follows d d };
 
     ghost follows_trans: { (a b c : Self.Desk) → follows a b → follows b c → follows a c };
+
+    ghost keeps_refl: { (t : Self) (d : Self.Desk) → keeps t d t d };
+
+    ghost keeps_trans: { (s t u : Self) (a b c : Self.Desk) → keeps s a t b → keeps t b u c → keeps s a u c };
 
     /// A refusal holds from every desk that the earlier one follows.
     ghost refused_from: { (s t : Self) (a b c : Self.Desk) (line : List ℕ) (e : Self.Refusal)

@@ -9,7 +9,9 @@ invariant-loop-total g l = record {
   few : l.cutter.ended ≤ l.total;
   stays : Stays g.N.Shelf l.fn.shelf l.shelf;
   asked : g.N.Shelf.asked l.shelf ≡ g.N.Shelf.asked l.fn.shelf;
+  count : g.T.LineTaker.count l.taker ≡ l.cutter.ended;
   serves : g.T.LineTaker.serves l.taker l.desk;
+  keeps : g.T.LineTaker.keeps l.fn.taker l.fn.desk l.taker l.desk;
   follows : g.T.LineTaker.follows l.fn.desk l.desk;
 }
 

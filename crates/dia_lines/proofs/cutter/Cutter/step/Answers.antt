@@ -14,3 +14,9 @@ pub returns-in_ok-go_on-in-None-clause-ok : goal.returns-in_ok-go_on-in-None-cla
 returns-in_ok-go_on-in-None-clause-ok g c =
     consumes_all g.T.LineTaker c.args.taker.now c.args.taker.now c.args.self.now c.go_on.new.self c.args.bytes.now
     (λ began seen taken. c.in_ok-go_on-in-None.ensures.ok began c.args.taker.now seen taken)
+
+pub returns-in_err-go_on-in-None-clause-own : goal.returns-in_err-go_on-in-None-clause-own
+returns-in_err-go_on-in-None-clause-own g c =
+    let e = c.in_err-go_on-in-None.field-0.0 in
+    let same : c.from_residual.result ≡ Err e = search rules in
+    rw same (c.in_err-go_on-in-None.ensures.own c.args.taker.now c.args.desk.now c.args.desk.now)
