@@ -14,8 +14,8 @@ use Rattle.dia_file.specs.declared.place.Place.{Place}
 use Rattle.dia_file.specs.declared.writer.FileWriter.TheInside as writers
 use Rattle.dia_file.specs.declared.keep.KeepReader.TheInside as readers
 use Rattle.dia_file.specs.Pieces.{AreIn}
-use Rattle.dia_file.specs.Frames.{pieces, blocks_of, AllSealedIn, sealed_of, frame_bytes}
-use Rattle.dia_file.specs.Writers.{writer_value, rows_written, IsWriterOf, IsFilled, Stands, IsWriter}
+use Rattle.dia_file.specs.Frames.{pieces, blocks_of, AllSealedIn, IsFilled, sealed_of, frame_bytes}
+use Rattle.dia_file.specs.Writers.{writer_value, rows_written, IsWriterOf, Stands, IsWriter}
 use Rattle.dia_file.specs.Files.{rows_stored, IsStored}
 use Rattle.dia_file.specs.Places.{at_spot, held_list, pins, ahead_items, file_items, rows_left, IsHeld, IsPlaced, Telling}
 use Rattle.dia_file.specs.Readers.{spot, IsReading, IsKeeper}

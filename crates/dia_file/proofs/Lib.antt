@@ -1,6 +1,7 @@
 pub mod RowBytes
 pub mod PieceLemmas
 pub mod Tallying
+pub mod Lines
 pub mod Spreading
 pub mod WriterLemmas
 pub mod FileLemmas

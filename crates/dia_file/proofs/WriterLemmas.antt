@@ -14,8 +14,8 @@ use Rattle.dia_file.specs.declared.sealed.Sealed.{Sealed}
 use Rattle.dia_file.specs.declared.writer.FileWriter.TheInside.{Inside}
 use Rattle.dia_file.specs.Encoding.{spelled, encoded, AreOf}
 use Rattle.dia_file.specs.Pieces.{Piece, over, first_bytes, IsPiece, AreIn}
-use Rattle.dia_file.specs.Frames.{piece_of, pieces, blocks_of, AllSealedIn, IsFrameIn, frame_bytes, sealed_of, AreLong, joined, Spread, IsPut, IsTorn}
-use Rattle.dia_file.specs.Writers.{WriterValue, last_piece, rows_written, writer_value, IsWriterOf, IsFilled, IsIdle, Stands, IsWriter}
+use Rattle.dia_file.specs.Frames.{piece_of, pieces, blocks_of, AllSealedIn, IsFilled, IsFrameIn, frame_bytes, sealed_of, AreLong, joined, Spread, IsPut, IsTorn}
+use Rattle.dia_file.specs.Writers.{WriterValue, last_piece, rows_written, writer_value, IsWriterOf, IsIdle, Stands, IsWriter}
 use Rattle.dia_file.proofs.RowBytes.{spelled_is, is_spelled, are-append, encoded-append, encoded-one, encoded_short}
 use Rattle.dia_file.proofs.PieceLemmas.{in_rows, in-append, in-one, no_rows}
 

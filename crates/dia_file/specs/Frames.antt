@@ -36,6 +36,11 @@ abbrev pub IsFrameIn : PoolName → Option FrameValue → Type 0
 IsFrameIn pool None = ⊤
 IsFrameIn pool (Some f) = f.pool ≡ pool
 
+-- a frame that is written has some bytes
+abbrev pub IsFilled : Option FrameValue → Type 0
+IsFilled None = ⊤
+IsFilled (Some f) = 0 < length f.bytes
+
 -- the block that comes of a frame
 abbrev pub sealed_of : Option FrameValue → ℕ → List Sealed
 sealed_of None ends = []

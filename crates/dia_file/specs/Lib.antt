@@ -1,6 +1,7 @@
 pub mod Encoding
 pub mod Pieces
 pub mod Frames
+pub mod Parts
 pub mod Weighing
 pub mod Writers
 pub mod Refusals

@@ -8,7 +8,7 @@ use Rattle.block_pool.specs.Handles.{PoolName, BlockValue, FrameValue, HandValue
 use Rattle.dia_file.specs.Encoding.{encoded, AreOf}
 use Rattle.dia_file.specs.Pieces.{Piece, rows_in, IsPiece, AreIn}
 use Rattle.dia_file.specs.declared.sealed.Sealed.{Sealed}
-use Rattle.dia_file.specs.Frames.{pieces, blocks_of, AllSealedIn, IsFrameIn, frame_bytes, frames}
+use Rattle.dia_file.specs.Frames.{pieces, blocks_of, AllSealedIn, IsFilled, IsFrameIn, frame_bytes, frames}
 use Rattle.dia_file.specs.declared.writer.FileWriter.TheInside.{Inside}
 use Rattle.dia_file.specs.declared.refusals.PushErr.{PushErr}
 use Rattle.dia_file.specs.declared.refusals.PushErr.TheVariants.{Disk, NoMemory, TooManyRows}
@@ -39,10 +39,6 @@ rows_written w = rows_in (kind_list w.kinds) [] (pieces w.sealed.items ++ last_p
 
 abbrev pub writer_value : Inside → WriterValue
 writer_value w = record { kinds = kind_list w.kinds; limit = w.limit; rows = rows_written w; blocks = blocks_of w.sealed.items; frame = w.frame; is_broken = w.broken }
-
-abbrev pub IsFilled : Option FrameValue → Type 0
-IsFilled None = ⊤
-IsFilled (Some f) = 0 < length f.bytes
 
 -- no row ends in a frame that isn't there
 abbrev pub IsIdle : Option FrameValue → ℕ → Type 0

@@ -1,17 +1,21 @@
 //! Files that are written.
 ghost use Rattle.std.specs.Prelude.{◌≡◌, ◌+◌, ◌<◌, ◌≤◌, ◌^◌, ◌++◌, ◌∷◌, [], true, false, ℕ, List, length, None, Some, Err, IfOk, OnOk, OnErr, IfErr, IfSome, ◌↔◌};
-ghost use Rattle.row_defs.specs.Limits.{most_rows};
-ghost use Rattle.row_defs.specs.Rows.{kinds_of};
+ghost use Rattle.row_defs.specs.declared.kind.Kind.TheVariants.{Text};
+ghost use Rattle.row_defs.specs.Limits.{longest_text, most_rows};
+ghost use Rattle.row_defs.specs.Pieces.{line_row};
+ghost use Rattle.row_defs.specs.Rows.{Row, IsRow, kinds_of};
 ghost use Rattle.dia_item.specs.KindList.{kind_list};
 ghost use Rattle.dia_item.specs.Lent.{row_in_ref};
+ghost use Rattle.dia_item.specs.Sizes.{longest_row};
 ghost use Rattle.block_pool.specs.Handles.{Follows, SameTally};
 ghost use Rattle.dia_file.specs.Frames.{frame_bytes, frames, IsFrameIn, sealed_of, Spread};
+ghost use Rattle.dia_file.specs.Parts.{bytes_of};
 ghost use Rattle.dia_file.specs.Tallies.{Frees, Makes};
 ghost use Rattle.dia_file.specs.declared.refusals.PushErr.TheVariants.{TooManyRows};
 
 use crate::file::File;
 use crate::refusals::PushErr;
-use crate::sealed::{Sealed, free_all, put_row, seal_frame};
+use crate::sealed::{Parts, Sealed, free_all, put_row, seal_frame};
 use block_pool::{Frame, Hand};
 use dia_edge::{Disk, NoMemory};
 use dia_item::{Kinds, RowRef};
@@ -110,22 +114,93 @@ impl FileWriter {
         ensures made { Makes (length self.old.blocks) (length self.new.blocks) hand.old.notes hand.new.notes }
         ensures follows { Follows hand.old hand.new }
     {
+        let bytes = row.bytes();
+        let parts = Parts {
+            head: &[],
+            prefix: &[],
+            rest: bytes,
+        };
+        self.push_parts(rt, hand, parts)
+    }
+
+    /// One more row at the end, of the one text that is `prefix` and then `rest`: one copy of its bytes. The refusals are
+    /// those of `push`.
+    #[inline]
+    #[tactic(auto, unfolding(row_defs::specs::Rows::bytes_of_u32))]
+    pub fn push_text<R: Wait, D: Disk>(
+        &mut self,
+        rt: &R,
+        hand: &mut Hand<'_, D>,
+        prefix: &[u8],
+        rest: &[u8],
+    ) -> Result<(), PushErr>
+        requires kinds { self.old.kinds ≡ Text ∷ [] }
+        requires text { length prefix.now + length rest.now ≤ longest_text }
+        requires unbroken { self.old.is_broken ≡ false }
+        requires permit { 0 < hand.old.permits + frames_of self.old }
+        requires own { IsWriterOf hand.old.pool self.old }
+        ensures ok { OnOk result (self.new.rows ≡ self.old.rows ++ line_row (prefix.now ++ rest.now) ∷ []) }
+        ensures err { OnErr result (self.new.rows ≡ self.old.rows) }
+        ensures unbroken { OnOk result (self.new.is_broken ≡ false) }
+        ensures refused { IfErr result (λ e. RefusesPush e self.old hand.old self.new hand.new) }
+        ensures full { length self.old.rows ≡ self.old.limit → result ≡ Err (TooManyRows self.old.limit) }
+        ensures kinds { self.new.kinds ≡ self.old.kinds }
+        ensures limit { self.new.limit ≡ self.old.limit }
+        ensures own { IsWriterOf hand.new.pool self.new }
+        ensures permits { hand.new.permits + frames_of self.new ≡ hand.old.permits + frames_of self.old }
+        ensures made { Makes (length self.old.blocks) (length self.new.blocks) hand.old.notes hand.new.notes }
+        ensures follows { Follows hand.old hand.new }
+    {
+        let head = ((prefix.len() + rest.len()) as u32).to_le_bytes();
+        let parts = Parts {
+            head: &head,
+            prefix,
+            rest,
+        };
+        self.push_parts(rt, hand, parts)
+    }
+
+    /// One more row at the end, of these bytes.
+    #[inline(always)]
+    fn push_parts<R: Wait, D: Disk>(
+        &mut self,
+        rt: &R,
+        hand: &mut Hand<'_, D>,
+        parts: Parts<'_>,
+    ) -> Result<(), PushErr>
+        requires row { (row : Row) × IsRow self.old.kinds (bytes_of parts) row }
+        requires most { length (bytes_of parts) ≤ longest_row }
+        requires unbroken { self.old.is_broken ≡ false }
+        requires permit { 0 < hand.old.permits + frames_of self.old }
+        requires own { IsWriterOf hand.old.pool self.old }
+        ensures ok { OnOk result ((row : Row) → IsRow self.old.kinds (bytes_of parts.entry) row → self.new.rows ≡ self.old.rows ++ row ∷ []) }
+        ensures err { OnErr result (self.new.rows ≡ self.old.rows) }
+        ensures unbroken { OnOk result (self.new.is_broken ≡ false) }
+        ensures refused { IfErr result (λ e. RefusesPush e self.old hand.old self.new hand.new) }
+        ensures full { length self.old.rows ≡ self.old.limit → result ≡ Err (TooManyRows self.old.limit) }
+        ensures kinds { self.new.kinds ≡ self.old.kinds }
+        ensures limit { self.new.limit ≡ self.old.limit }
+        ensures own { IsWriterOf hand.new.pool self.new }
+        ensures permits { hand.new.permits + frames_of self.new ≡ hand.old.permits + frames_of self.old }
+        ensures made { Makes (length self.old.blocks) (length self.new.blocks) hand.old.notes hand.new.notes }
+        ensures follows { Follows hand.old hand.new }
+    {
         if self.rows == self.limit {
             return Err(PushErr::TooManyRows { limit: self.limit });
         }
-        let bytes = row.bytes();
+        let len = parts.len();
         match put_row(
             rt,
             hand,
             &mut self.sealed,
             &mut self.frame,
             &mut self.ends,
-            bytes,
+            parts,
         ) {
             Ok(()) => {
                 self.ends += 1;
                 self.rows += 1;
-                self.bytes += bytes.len() as u64;
+                self.bytes += len as u64;
                 Ok(())
             }
             Err(refusal) => {
