@@ -1,10 +1,13 @@
 -- A reader that frees its blocks, from row to row.
-use Rattle.std.proofs.Common.{◌≡◌, ℕ, ◌+◌, ◌≤◌, ◌<◌, ⊎_elim, true, List, [], ◌∷◌, ◌++◌, length, take, drop, Option, None, Some, refl, sym, ap, subst, ◌∙◌, length-append, arith}
+use Rattle.std.proofs.Common.{◌≡◌, ℕ, ◌+◌, ◌≤◌, ◌<◌, ⊎_elim, true, List, [], ◌∷◌, ◌++◌, length, take, drop, Option, None, Some, IfSome, IfNone, OnSome, refl, sym, ap, subst, ◌∙◌, length-append, arith}
 use Rattle.std.proofs.lemmas.List.{map-append, take-append-drop}
 use Rattle.std.proofs.lemmas.List.Elements.{recursion_from_All, All-from_recursion}
 use Rattle.row_defs.specs.declared.kind.Kind.{Kind}
-use Rattle.row_defs.specs.Rows.{Row}
+use Rattle.row_defs.specs.Rows.{Row, kinds_of}
 use Rattle.dia_item.specs.KindList.{kind_list}
+use Rattle.dia_item.specs.Lent.{row_in_ref}
+use Rattle.dia_item.specs.declared.row_ref.RowRef.{RowRef}
+use Rattle.block_pool.specs.Follows.{follows_refl}
 use Rattle.block_pool.specs.Handles.{PoolName, BlockValue, HandValue, AreOfPool, Follows}
 use Rattle.dia_file.specs.declared.sealed.Sealed.{Sealed}
 use Rattle.dia_file.specs.declared.place.After.{After}
@@ -16,15 +19,15 @@ use Rattle.dia_file.specs.Encoding.{encoded}
 use Rattle.dia_file.specs.Pieces.{over}
 use Rattle.dia_file.specs.Frames.{blocks_of, AllSealedIn, AreBlocksOf}
 use Rattle.dia_file.specs.Files.{joined_blocks}
-use Rattle.dia_file.specs.Places.{at_spot, held_list, pins, block_count, ahead_items, file_items, begun_at, current, rows_left, Leaves, IsPlaced, Telling, Tells, Moved}
+use Rattle.dia_file.specs.Places.{at_spot, shown_bytes, held_list, pins, block_count, ahead_items, file_items, begun_at, current, rows_left, Leaves, IsPlaced, Telling, Tells, Moved, GaveRow, GivesNone}
 use Rattle.dia_file.specs.Tallies.{Frees}
-use Rattle.dia_file.specs.Readers.{IsReading}
+use Rattle.dia_file.specs.Readers.{IsReading, Gives, StaysAt}
 use Rattle.dia_file.specs.Consumers.{ConsumerValue, consumer_value, spot, IsConsumer, Drains}
 use Rattle.dia_file.proofs.Tallying.{count_blocks}
 use Rattle.dia_file.proofs.RowBytes.{encoded-append}
 use Rattle.dia_file.proofs.FileLemmas.{in_bytes}
 use Rattle.dia_file.proofs.Steps.{left_told}
-use Rattle.dia_file.proofs.ReaderLemmas.{same_pool, none_or_some, pins_le}
+use Rattle.dia_file.proofs.ReaderLemmas.{same_pool, none_or_some, pins_le, Ready, here_ready, gave, missed, misses_next, after_give}
 
 abbrev pub moved_to : Inside → Place → ℕ → ℕ → ℕ → Inside
 moved_to w p a h k = record w { place = p; at = a; here = h; kept = k }
@@ -132,3 +135,93 @@ ring_own pool p placed =
     let P : List Sealed → Type 0 = λ xs. AreBlocksOf pool xs in
     subst P (take-append-drop p.ahead p.ring.items)
     (own-append pool (ahead_items p) (drop p.ahead p.ring.items) (all_own pool (ahead_items p) placed.sealed) (all_own pool (drop p.ahead p.ring.items) placed.behind))
+
+-- where the reader came to before it gives a row: to another place among the same blocks, or where it stood
+pub record Arrived (w v : Inside) (first last : HandValue) : Type 0 where
+  pub p : Place
+  pub a : ℕ
+  pub h : ℕ
+  pub k : ℕ
+  pub is : moved_to w p a h k ≡ v
+  pub ready : Ready (kind_list w.kinds) (spot w) first.pool p a h k
+  pub permits : last.permits + pins p.shown ≡ first.permits + pins w.place.shown
+  pub gone : Frees (block_count w.place) (block_count p) first.notes last.notes
+  pub follows : Follows first last
+
+pub arrived :
+    (w v : Inside) (first mid last : HandValue) (p : Place) (a h k : ℕ) → v ≡ moved_to w p a h k → last ≡ mid → Ready (kind_list w.kinds) (spot w) first.pool p a h k
+    → mid.permits + pins p.shown ≡ first.permits + pins w.place.shown → Frees (block_count w.place) (block_count p) first.notes mid.notes → Follows first mid → Arrived w v first last
+arrived w v first mid last p a h k is same ready permits gone follows =
+    let To : HandValue → Type 0 = λ x. Arrived w v first x in
+    subst To (sym same) (record { p = p; a = a; h = h; k = k; is = sym is; ready = ready; permits = permits; gone = gone; follows = follows })
+
+pub stood :
+    (w v : Inside) (first last : HandValue) → v ≡ w → last ≡ first → IsReading (kind_list w.kinds) (spot w) → AreBlocksOf first.pool (file_items (spot w)) → 0 < w.here → Arrived w v first last
+stood w v first last is same reading own some =
+    arrived w v first first last w.place w.at w.here w.kept is same (here_ready (kind_list w.kinds) first.pool w.place w.at w.here w.kept reading own some) refl (refl, refl) (follows_refl first)
+
+-- what `give` answered there
+pub record GivenAt (v : Inside) (o : Option RowRef) (b i j : ℕ) : Type 0 where
+  pub within : b ≤ length (shown_bytes v.place.shown)
+  pub kept : j ≡ 0
+  pub reads : IfSome o (λ row. GaveRow (kind_list v.kinds) (spot v) (row_in_ref row) (at_spot v.place b i j))
+  pub are : IfSome o (λ row. kinds_of (row_in_ref row) ≡ kind_list v.kinds)
+  pub some : OnSome o (i + 1 ≡ v.here)
+  pub none : IfNone o (GivesNone (kind_list v.kinds) (spot v))
+  pub stays : IfNone o (i ≡ v.here)
+
+pub consumer_after : (w v : Inside) (first last : HandValue) (o : Option RowRef) (b i j : ℕ) → IsConsumer w → Arrived w v first last → GivenAt v o b i j → IsConsumer (moved_to v v.place b i j)
+consumer_after w v first last o b i j consumer x =
+    let To : Inside → Type 0 = λ y. GivenAt y o b i j → IsConsumer (moved_to y y.place b i j) in
+    subst To x.is (λ e.
+    let reading = after_give row_in_ref o (kind_list w.kinds) (spot w) first.pool x.p x.a x.h x.k b i j x.ready e.within e.kept e.reads e.are e.some e.none e.stays in
+    consumer_moved w first.pool x.p x.a x.h x.k b i j consumer x.ready.moved reading)
+
+-- a row was given
+pub record GaveOn (v : Inside) (value : ConsumerValue) (first last : HandValue) (row : Row) (b i j : ℕ) : Type 0 where
+  pub gives : Gives first.pool value.kinds value.left row (consumer_value (moved_to v v.place b i j)).left
+  pub one : pins v.place.shown ≡ 1
+  pub drained : Drains first last value (consumer_value (moved_to v v.place b i j))
+  pub room : first.permits + value.pinned ≤ last.permits + 1
+
+pub gave_on :
+    (w v : Inside) (value : ConsumerValue) (first last : HandValue) (row : RowRef) (b i j : ℕ) → consumer_value w ≡ value → IsConsumer w → AreOfPool first.pool value.blocks
+    → Arrived w v first last → GivenAt v (Some row) b i j → GaveOn v value first last (row_in_ref row) b i j
+gave_on w v value first last row b i j is consumer own x =
+    let To : Inside → Type 0 = λ y. GivenAt y (Some row) b i j → GaveOn y value first last (row_in_ref row) b i j in
+    subst To x.is (λ e.
+    let reading = after_give row_in_ref (Some row) (kind_list w.kinds) (spot w) first.pool x.p x.a x.h x.k b i j x.ready e.within e.kept e.reads e.are e.some e.none e.stays in
+    let pinned = ap (λ (z : ConsumerValue). z.pinned) is in
+    let permits = x.permits in
+    let GivesOf : ConsumerValue → Type 0 = λ z. Gives first.pool z.kinds z.left (row_in_ref row) (consumer_value (moved_to w x.p b i j)).left in
+    record {
+      gives = subst GivesOf is (gave (kind_list w.kinds) (spot w) first.pool x.p x.a x.h x.k b i j (row_in_ref row) x.ready e.within e.kept e.reads e.are e.some);
+      one = x.ready.placed.some x.ready.some;
+      drained = drains w value first last x.p x.a x.h x.k b i j is consumer own x.ready.moved reading permits x.gone x.follows;
+      room = omega (arith, permits, pinned, pins_le x.p.shown);
+    })
+
+-- none was
+pub record MissedOn (v : Inside) (value : ConsumerValue) (first last : HandValue) (b i j : ℕ) : Type 0 where
+  pub stays : StaysAt first.pool value.left (consumer_value (moved_to v v.place b i j)).left
+  pub untold : first.pool.opening.tells ≡ true → ⊥
+  pub drained : Drains first last value (consumer_value (moved_to v v.place b i j))
+  pub room : first.permits + value.pinned ≤ last.permits + 1
+
+pub missed_on :
+    (w v : Inside) (value : ConsumerValue) (first last : HandValue) (b i j : ℕ) → consumer_value w ≡ value → IsConsumer w → AreOfPool first.pool value.blocks
+    → Arrived w v first last → GivenAt v None b i j → MissedOn v value first last b i j
+missed_on w v value first last b i j is consumer own x =
+    let To : Inside → Type 0 = λ y. GivenAt y None b i j → MissedOn y value first last b i j in
+    subst To x.is (λ e.
+    let nothing : Option RowRef = None in
+    let reading = after_give row_in_ref nothing (kind_list w.kinds) (spot w) first.pool x.p x.a x.h x.k b i j x.ready e.within e.kept e.reads e.are e.some e.none e.stays in
+    let pinned = ap (λ (z : ConsumerValue). z.pinned) is in
+    let permits = x.permits in
+    let StaysOf : ConsumerValue → Type 0 = λ z. StaysAt first.pool z.left (consumer_value (moved_to w x.p b i j)).left in
+    record {
+      stays = subst StaysOf is (missed (kind_list w.kinds) (spot w) first.pool x.p x.a x.h x.k b i j x.ready e.within e.kept e.none e.stays);
+      untold = (misses_next (kind_list w.kinds) (spot w) first.pool x.p x.a x.h x.k b x.ready e.within e.none).untold;
+      drained = drains w value first last x.p x.a x.h x.k b i j is consumer own x.ready.moved reading permits x.gone x.follows;
+      room = omega (arith, permits, pinned, pins_le x.p.shown);
+    })

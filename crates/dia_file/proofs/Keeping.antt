@@ -1,7 +1,11 @@
 -- A keeping reader: its file stays from row to row.
-use Rattle.std.proofs.Common.{◌≡◌, ℕ, ◌+◌, ◌≤◌, List, length, sym, ap, subst, ◌∙◌, arith}
+use Rattle.std.proofs.Common.{◌≡◌, ℕ, ◌+◌, ◌≤◌, ◌<◌, true, List, length, Option, None, Some, IfSome, IfNone, OnSome, refl, sym, ap, subst, ◌∙◌, arith}
+use Rattle.row_defs.specs.Rows.{Row, kinds_of}
 use Rattle.dia_item.specs.KindList.{kind_list}
-use Rattle.block_pool.specs.Handles.{PoolName, BlockValue, HandValue, SameTally}
+use Rattle.dia_item.specs.Lent.{row_in_ref}
+use Rattle.dia_item.specs.declared.row_ref.RowRef.{RowRef}
+use Rattle.block_pool.specs.Handles.{PoolName, BlockValue, HandValue, SameTally, Follows}
+use Rattle.block_pool.specs.Follows.{follows_refl}
 use Rattle.std.proofs.lemmas.List.Elements.{recursion_from_All}
 use Rattle.dia_file.specs.declared.sealed.Sealed.{Sealed}
 use Rattle.dia_file.specs.declared.place.After.{After}
@@ -9,11 +13,11 @@ use Rattle.dia_file.specs.declared.place.Place.{Place}
 use Rattle.dia_file.specs.declared.keep.KeepReader.TheInside.{Inside}
 use Rattle.dia_file.specs.Frames.{blocks_of, AreBlocksOf}
 use Rattle.dia_file.specs.Files.{IsFileOf, IsStored, rows_stored}
-use Rattle.dia_file.specs.Places.{at_spot, pins, block_count, file_items, Leaves, IsPlaced, Moved}
-use Rattle.dia_file.specs.Readers.{KeeperValue, keeper_value, spot, IsReading, IsKeeper, Keeps}
+use Rattle.dia_file.specs.Places.{at_spot, shown_bytes, pins, block_count, file_items, Leaves, IsPlaced, Moved, GaveRow, GivesNone}
+use Rattle.dia_file.specs.Readers.{KeeperValue, keeper_value, spot, IsReading, IsKeeper, Keeps, Gives, StaysAt}
 use Rattle.dia_file.specs.Tallies.{Frees}
 use Rattle.dia_file.proofs.Tallying.{count_placed, frees_none}
-use Rattle.dia_file.proofs.ReaderLemmas.{pins_le}
+use Rattle.dia_file.proofs.ReaderLemmas.{pins_le, Ready, here_ready, gave, missed, misses_next, after_give}
 
 abbrev pub moved_to : Inside → Place → ℕ → ℕ → ℕ → Inside
 moved_to w p a h k = record w { place = p; at = a; here = h; kept = k }
@@ -67,3 +71,92 @@ kept_on w v first last p a h k b i j is keeper placed moved permits gone =
       room = omega (arith, permits, pinned, pins_le p.shown);
       tally = frees_none (block_count w.place) (block_count p) first.notes last.notes gone same;
     }
+
+-- where the reader came to before it gives a row: to another place among the same blocks, or where it stood
+pub record Arrived (w v : Inside) (first last : HandValue) : Type 0 where
+  pub p : Place
+  pub a : ℕ
+  pub h : ℕ
+  pub k : ℕ
+  pub is : moved_to w p a h k ≡ v
+  pub ready : Ready (kind_list w.kinds) (spot w) first.pool p a h k
+  pub permits : last.permits + pins p.shown ≡ first.permits + pins w.place.shown
+  pub gone : Frees (block_count w.place) (block_count p) first.notes last.notes
+  pub follows : Follows first last
+
+pub arrived :
+    (w v : Inside) (first mid last : HandValue) (p : Place) (a h k : ℕ) → v ≡ moved_to w p a h k → last ≡ mid → Ready (kind_list w.kinds) (spot w) first.pool p a h k
+    → mid.permits + pins p.shown ≡ first.permits + pins w.place.shown → Frees (block_count w.place) (block_count p) first.notes mid.notes → Follows first mid → Arrived w v first last
+arrived w v first mid last p a h k is same ready permits gone follows =
+    let To : HandValue → Type 0 = λ x. Arrived w v first x in
+    subst To (sym same) (record { p = p; a = a; h = h; k = k; is = sym is; ready = ready; permits = permits; gone = gone; follows = follows })
+
+pub stood :
+    (w v : Inside) (first last : HandValue) → v ≡ w → last ≡ first → IsReading (kind_list w.kinds) (spot w) → AreBlocksOf first.pool (file_items (spot w)) → 0 < w.here → Arrived w v first last
+stood w v first last is same reading own some =
+    arrived w v first first last w.place w.at w.here w.kept is same (here_ready (kind_list w.kinds) first.pool w.place w.at w.here w.kept reading own some) refl (refl, refl) (follows_refl first)
+
+-- what `give` answered there
+pub record GivenAt (v : Inside) (o : Option RowRef) (b i j : ℕ) : Type 0 where
+  pub within : b ≤ length (shown_bytes v.place.shown)
+  pub kept : j ≡ 0
+  pub reads : IfSome o (λ row. GaveRow (kind_list v.kinds) (spot v) (row_in_ref row) (at_spot v.place b i j))
+  pub are : IfSome o (λ row. kinds_of (row_in_ref row) ≡ kind_list v.kinds)
+  pub some : OnSome o (i + 1 ≡ v.here)
+  pub none : IfNone o (GivesNone (kind_list v.kinds) (spot v))
+  pub stays : IfNone o (i ≡ v.here)
+
+pub keeper_after : (w v : Inside) (first last : HandValue) (o : Option RowRef) (b i j : ℕ) → IsKeeper w → Arrived w v first last → GivenAt v o b i j → IsKeeper (moved_to v v.place b i j)
+keeper_after w v first last o b i j keeper x =
+    let To : Inside → Type 0 = λ y. GivenAt y o b i j → IsKeeper (moved_to y y.place b i j) in
+    subst To x.is (λ e.
+    let reading = after_give row_in_ref o (kind_list w.kinds) (spot w) first.pool x.p x.a x.h x.k b i j x.ready e.within e.kept e.reads e.are e.some e.none e.stays in
+    keeper_moved w first.pool x.p x.a x.h x.k b i j keeper x.ready.moved reading)
+
+-- a row was given
+pub record GaveOn (v : Inside) (value : KeeperValue) (first last : HandValue) (row : Row) (b i j : ℕ) : Type 0 where
+  pub gives : Gives first.pool value.file.kinds value.left row (keeper_value (moved_to v v.place b i j)).left
+  pub one : pins v.place.shown ≡ 1
+  pub keeps : Keeps first last value (keeper_value (moved_to v v.place b i j))
+  pub room : first.permits + value.pinned ≤ last.permits + 1
+  pub tally : SameTally first.notes last.notes
+
+pub gave_on :
+    (w v : Inside) (value : KeeperValue) (first last : HandValue) (row : RowRef) (b i j : ℕ) → keeper_value w ≡ value → IsKeeper w → Arrived w v first last → GivenAt v (Some row) b i j
+    → GaveOn v value first last (row_in_ref row) b i j
+gave_on w v value first last row b i j is keeper x =
+    let To : Inside → Type 0 = λ y. GivenAt y (Some row) b i j → GaveOn y value first last (row_in_ref row) b i j in
+    subst To x.is (λ e.
+    let on = kept_on w value first last x.p x.a x.h x.k b i j is keeper x.ready.placed x.ready.moved x.permits x.gone in
+    let GivesOf : KeeperValue → Type 0 = λ z. Gives first.pool z.file.kinds z.left (row_in_ref row) (keeper_value (moved_to w x.p b i j)).left in
+    record {
+      gives = subst GivesOf is (gave (kind_list w.kinds) (spot w) first.pool x.p x.a x.h x.k b i j (row_in_ref row) x.ready e.within e.kept e.reads e.are e.some);
+      one = x.ready.placed.some x.ready.some;
+      keeps = on.keeps;
+      room = on.room;
+      tally = on.tally;
+    })
+
+-- none was
+pub record MissedOn (v : Inside) (value : KeeperValue) (first last : HandValue) (b i j : ℕ) : Type 0 where
+  pub stays : StaysAt first.pool value.left (keeper_value (moved_to v v.place b i j)).left
+  pub untold : first.pool.opening.tells ≡ true → ⊥
+  pub keeps : Keeps first last value (keeper_value (moved_to v v.place b i j))
+  pub room : first.permits + value.pinned ≤ last.permits + 1
+  pub tally : SameTally first.notes last.notes
+
+pub missed_on :
+    (w v : Inside) (value : KeeperValue) (first last : HandValue) (b i j : ℕ) → keeper_value w ≡ value → IsKeeper w → Arrived w v first last → GivenAt v None b i j
+    → MissedOn v value first last b i j
+missed_on w v value first last b i j is keeper x =
+    let To : Inside → Type 0 = λ y. GivenAt y None b i j → MissedOn y value first last b i j in
+    subst To x.is (λ e.
+    let on = kept_on w value first last x.p x.a x.h x.k b i j is keeper x.ready.placed x.ready.moved x.permits x.gone in
+    let StaysOf : KeeperValue → Type 0 = λ z. StaysAt first.pool z.left (keeper_value (moved_to w x.p b i j)).left in
+    record {
+      stays = subst StaysOf is (missed (kind_list w.kinds) (spot w) first.pool x.p x.a x.h x.k b i j x.ready e.within e.kept e.none e.stays);
+      untold = (misses_next (kind_list w.kinds) (spot w) first.pool x.p x.a x.h x.k b x.ready e.within e.none).untold;
+      keeps = on.keeps;
+      room = on.room;
+      tally = on.tally;
+    })

@@ -12,7 +12,7 @@ use Rattle.dia_file.specs.declared.place.Place.{Place}
 use Rattle.dia_file.specs.Frames.{AllSealedIn, AreBlocksOf}
 use Rattle.dia_file.specs.Places.{at_spot, held_list, shown_bytes, pins, ahead_items, file_items, rows_left, IsHeld, IsPlaced, Tells, Moved, GaveRow, GivesNone}
 use Rattle.dia_file.specs.Readers.{IsReading, Gives, StaysAt}
-use Rattle.dia_file.proofs.PlaceLemmas.{kept_len, tells_moved}
+use Rattle.dia_file.proofs.PlaceLemmas.{kept_len, moved_refl, tells_moved}
 use Rattle.dia_file.proofs.Tallying.{length_held}
 use Rattle.dia_file.proofs.Steps.{Given, given_told, none_told, left_told, length_left}
 
@@ -321,3 +321,17 @@ after_give row_of (Some found) kinds x pool p a h k b i j r at none reads are on
 pub pins_le : (o : Option Held) → pins o ≤ 1
 pins_le None = omega arith
 pins_le (Some h) = omega arith
+
+-- where a row that wasn't read yet ends in the block that is pinned, the place is ready as it stands
+pub here_ready :
+    (kinds : List Kind) (pool : PoolName) (p : Place) (a h k : ℕ) → IsReading kinds (at_spot p a h k) → AreBlocksOf pool (file_items (at_spot p a h k)) → 0 < h
+    → Ready kinds (at_spot p a h k) pool p a h k
+here_ready kinds pool p a h k i own some = record {
+  reading = i;
+  own = own;
+  placed = placed_at i.pool pool (at_spot p a h k) i.placed own;
+  moved = moved_refl kinds pool (at_spot p a h k);
+  still = λ _. refl;
+  some = some;
+  start = λ kept. let none = i.alone some in absurd (omega (arith, none, kept));
+}

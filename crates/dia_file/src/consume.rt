@@ -68,16 +68,19 @@ impl ConsumeReader {
             × OnErr result (StaysAt hand.old.pool self.old.left new.left)
             × Drains hand.old hand.new self.old new)) }
     {
-        if !ready(
-            rt,
-            &self.kinds,
-            hand,
-            &mut self.place,
-            &mut self.at,
-            &mut self.here,
-            &mut self.kept,
-        )? {
-            return Ok(None);
+        if self.here == 0 {
+            let more = ready(
+                rt,
+                &self.kinds,
+                hand,
+                &mut self.place,
+                &mut self.at,
+                &mut self.here,
+                &mut self.kept,
+            )?;
+            if !more {
+                return Ok(None);
+            }
         }
         match give(
             &self.kinds,
