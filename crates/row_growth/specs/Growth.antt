@@ -28,16 +28,16 @@ most_words len = len / 2 + len % 2
 abbrev pub untold : ℕ
 untold = 2 ^ 64 - 1
 
--- so many words the text in a column has at most: there is a bound for each of the first columns
+-- so many words the text in a column has at most: each of the first columns has a bound
 abbrev pub words_at : List ℕ → ℕ → ℕ
 words_at bounds c = slice_index_or bounds c untold
 
--- so many a part of a text has that has so many
+-- a part of a text has no more than the text, and a word is one
 abbrev pub words_of_part : Part → ℕ → ℕ
 words_of_part nth_word n = 1
 words_of_part _ n = n
 
--- so many the value of an expression has: one where it is a number that is spelled, or a word
+-- so many the value of an expression has at most: one where it is a number that is spelled, and none where it is a number
 abbrev pub words_of : List ℕ → Expr → ℕ
 words_of bounds (column c) = words_at bounds c
 words_of bounds (literal t) = most_words (length t)

@@ -26,7 +26,7 @@ fn words_at(bounds: &[u64], column: u32) -> u64
     bounds.get(column as usize).copied().unwrap_or(u64::MAX)
 }
 
-/// So many words, from now on, for a column that has a bound.
+/// Bounds a column's words anew, where it has a bound.
 fn set_words_at(bounds: &mut [u64], column: u32, words: u64)
     ensures { bounds.new ≡ slice_set bounds.old column words }
 {
@@ -36,7 +36,7 @@ fn set_words_at(bounds: &mut [u64], column: u32, words: u64)
     }
 }
 
-/// How many words the value of an expression has at most, or `u64::MAX` where that isn't known.
+/// How many words the value of an expression has at most, or `u64::MAX` where that isn't known. A number has none.
 fn words_of(bounds: &[u64], expr: &Expr) -> u64
     ensures { result ≡ words_of bounds.now (expr_in expr.now) }
 {
