@@ -107,6 +107,17 @@ impl<X: Net> Stock<X> {
         feed_root(alloc, &mut self.lines, operand.root, chains, last)
     }
 
+    /// Says that the feeds of an operand, joined by rank, have the rows of its root.
+    pub fn joined(&self, operand: &Operand, last: bool)
+        ensures { flat_map (λ (f : FeedValue). f.left)
+            (root_feeds (lines_of self.now) self.now.workers (root_in operand.now.root) last (ops_in operand.now.chain.items))
+            ≡ root_rows (lines_of self.now) (root_in operand.now.root) }
+    {
+        let _workers = self.workers;
+        let _ = operand;
+        let _ = last;
+    }
+
     /// The part of a line comes back from the worker to whom it was lent. It takes no memory and has no refusal.
     pub fn restore(&mut self, line: u32, rank: u32, file: File)
         requires { IsLent (lines_of self.old) line rank file.kinds }

@@ -1,0 +1,53 @@
+use Rattle.std.proofs.Common.{rules, ◌≡◌, ◌<◌, Err, sym, ap, subst, ◌∙◌, arith, length}
+use Rattle.std.specs.Prelude.{All}
+use Rattle.std.specs.List.{sum_by}
+use Rattle.row_defs.specs.Limits.{most_rows}
+use Rattle.lop_chain.specs.Operands.{root_in}
+use Rattle.lop_chain.specs.Ops.{ops_in}
+use Rattle.scatter.specs.Stocks.{lines_of}
+use Rattle.feed_actions.specs.Counting.{arriving, CountRefused, rows_counted}
+use Rattle.feed_actions.proofs.TurnCounts.{permits_same}
+use Rattle.feed_actions.proofs.Counts.{follow_refl, counted_all, refused_by}
+use Rattle.feed_actions.proofs.counting.count_all.Goals as goal
+
+pub returns-in-Err-clause-follows : goal.returns-in-Err-clause-follows
+returns-in-Err-clause-follows g c = follow_refl c.args.hands.now.items
+
+pub returns-in_err-count_phase-clause-refused : goal.returns-in_err-count_phase-clause-refused
+returns-in_err-count_phase-clause-refused g c =
+    let stock = c.args.stock.now in
+    let operand = c.args.operand.now in
+    let sinks = c.in-Ok.counters.items in
+    let none : All (λ s. rows_counted s ≡ 0) sinks = λ k d below. (c.in-Ok.ensures.fresh k d below).0 in
+    let e = c.in_err-count_phase.field-0.0 in
+    let same : c.from_residual.result ≡ Err e = search rules in
+    rw same
+    (refused_by _ rows_counted (λ s t rows p. p) (λ s a row e u b p. p) (lines_of stock) stock.workers (root_in operand.root) c.args.last (ops_in operand.chain.items)
+    sinks c.args.hands.now.items c.count_phase.new.counters.items c.count_phase.new.hands.items c.joined.ensures none e c.in_err-count_phase.ensures.stopped)
+
+pub returns-in-Ok-few-clause-count : goal.returns-in-Ok-few-clause-count
+returns-in-Ok-few-clause-count g c = λ told.
+    let stock = c.args.stock.now in
+    let operand = c.args.operand.now in
+    let sinks = c.in-Ok.counters.items in
+    let none : All (λ s. rows_counted s ≡ 0) sinks = λ k d below. (c.in-Ok.ensures.fresh k d below).0 in
+    let all = counted_all _ rows_counted (λ s t rows p. p) (λ s a row e u b p. p) (lines_of stock) stock.workers (root_in operand.root) c.args.last (ops_in operand.chain.items)
+    sinks c.args.hands.now.items c.count_phase.new.counters.items c.count_phase.new.hands.items c.joined.ensures none c.in_ok-count_phase.ensures.sent told in
+    c.in-Ok-few.ensures.ok.0 ∙ c.total.ensures ∙ ap (sum_by rows_counted) c.as_slice.ensures.value ∙ all
+
+pub returns-in-Ok-few-clause-permits : goal.returns-in-Ok-few-clause-permits
+returns-in-Ok-few-clause-permits g c =
+    let sent = c.in_ok-count_phase.ensures.sent in
+    permits_same _ (λ s t a b p. p) sent.turns c.args.hands.now.items c.count_phase.new.hands.items sent.are.hands_are sent.all
+
+pub returns-clause-refused : goal.returns-clause-refused
+returns-clause-refused g c = λ told.
+    let stock = c.args.stock.now in
+    let operand = c.args.operand.now in
+    let sinks = c.in-Ok.counters.items in
+    let none : All (λ s. rows_counted s ≡ 0) sinks = λ k d below. (c.in-Ok.ensures.fresh k d below).0 in
+    let all = counted_all _ rows_counted (λ s t rows p. p) (λ s a row e u b p. p) (lines_of stock) stock.workers (root_in operand.root) c.args.last (ops_in operand.chain.items)
+    sinks c.args.hands.now.items c.count_phase.new.counters.items c.count_phase.new.hands.items c.joined.ensures none c.in_ok-count_phase.ensures.sent told in
+    let n : c.total.result ≡ length (arriving (lines_of stock) (root_in operand.root) (ops_in operand.chain.items)) = c.total.ensures ∙ ap (sum_by rows_counted) c.as_slice.ensures.value ∙ all in
+    let many : most_rows < c.total.result = search rules in
+    subst (λ m. most_rows < m) n many

@@ -1,0 +1,4 @@
+pub mod Sinks
+pub mod Sums
+pub mod Told
+pub mod Counting

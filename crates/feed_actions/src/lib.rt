@@ -1,0 +1,12 @@
+//! Actions on the rows that all workers' feeds give: what `size` and `sum` come to.
+//!
+//! The layer above relies on `size` and `sum`: each is one phase over all workers, of which each counts or adds up the rows of
+//! its own feed. The lines in stock are afterwards as they were, and each worker's hand is there.
+#![tactic(auto)]
+
+mod counter;
+mod counting;
+mod summer;
+
+pub use counter::{Counter, TooManyRows};
+pub use summer::Summer;
