@@ -1,2 +1,3 @@
 pub mod TurnCounts
 pub mod Counts
+pub mod TurnSums

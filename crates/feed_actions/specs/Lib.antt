@@ -2,3 +2,4 @@ pub mod Sinks
 pub mod Sums
 pub mod Told
 pub mod Counting
+pub mod Adding

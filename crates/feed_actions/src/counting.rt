@@ -1,5 +1,5 @@
 //! The rows that arrive, counted by all workers.
-ghost use Rattle.std.specs.Prelude.{◌≡◌, ◌<◌, ◌≤◌, ◌*◌, ◌⊎◌, true, false, IfOk, OnOk, IfErr, OnErr, All, length, vec_len};
+ghost use Rattle.std.specs.Prelude.{◌≡◌, ◌<◌, ◌≤◌, ◌⊎◌, IfOk, OnOk, IfErr, OnErr, All, length, vec_len};
 ghost use Rattle.std.specs.List.{AllZip, sum_by};
 ghost use Rattle.row_defs.specs.Limits.{most_rows};
 ghost use Rattle.row_defs.specs.LocalOps.{AreSoundOps};
@@ -149,7 +149,7 @@ pub(crate) fn count_all<
 }
 
 /// So many rows may arrive, or are too many.
-fn few(rows: u64) -> Result<u64, TooManyRows>
+pub(crate) fn few(rows: u64) -> Result<u64, TooManyRows>
     ensures ok { IfOk result (λ n. (n ≡ rows) × (rows ≤ most_rows)) }
     ensures many { OnErr result (most_rows < rows) }
 {

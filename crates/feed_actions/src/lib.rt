@@ -4,6 +4,7 @@
 //! its own feed. The lines in stock are afterwards as they were, and each worker's hand is there.
 #![tactic(auto)]
 
+mod adding;
 mod counter;
 mod counting;
 mod summer;
