@@ -3,3 +3,4 @@ pub mod Sums
 pub mod Told
 pub mod Counting
 pub mod Adding
+pub mod Acting

@@ -4,10 +4,12 @@
 //! its own feed. The lines in stock are afterwards as they were, and each worker's hand is there.
 #![tactic(auto)]
 
+mod action;
 mod adding;
 mod counter;
 mod counting;
 mod summer;
 
+pub use action::{ActErr, size, sum};
 pub use counter::{Counter, TooManyRows};
 pub use summer::Summer;
