@@ -16,7 +16,7 @@ use Rattle.dia_lines.specs.declared.cutter.TakeErr.{TakeErr}
 use Rattle.dia_lines.specs.declared.cutter.TakeErr.TheVariants as takes
 use Rattle.dia_lines.specs.declared.input.InputErr.{InputErr}
 use Rattle.dia_lines.specs.declared.input.InputErr.TheVariants.{Missing, LineTooLong, InputTooLong, Refused, Read, NoMemory}
-use Rattle.dia_lines.specs.Taking.{is_text, AreTaken, HasTaken, IsLong, IsTurnedAway, RefusedLine, IsOfTaker, IsCut, TookAllOf}
+use Rattle.dia_lines.specs.Taking.{is_text, AreTaken, HasTaken, IsLong, IsTurnedAway, IsOfTaker, IsCut, TookAllOf}
 use Rattle.dia_lines.specs.Inputs.{AskedSome, Asks, IsReading, IsInputReason, IsTakersOwn, TookInput, reason_of}
 use Rattle.dia_lines.proofs.TakeLemmas.{list_all-push}
 

@@ -3,3 +3,4 @@ pub mod BlockLemmas
 pub mod TakeLemmas
 pub mod InputLemmas
 mod FitLemmas
+mod LongestLemmas

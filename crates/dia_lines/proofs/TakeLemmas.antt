@@ -6,7 +6,7 @@ use Rattle.row_defs.specs.Limits.{longest_text}
 use Rattle.row_defs.specs.Pieces.{pieces_from, lines_of, line_feed}
 use Rattle.dia_text.specs.Unbroken.{IsUnbroken}
 use Rattle.dia_text.proofs.PieceLemmas.{pieces-at, pieces-begin}
-use Rattle.dia_lines.specs.Taking.{is_text, AreTaken, HasTaken, IsLong, IsTurnedAway, RefusedLine, IsOfTaker, IsTakeReason, Consumes, IsCut, TookAllOf}
+use Rattle.dia_lines.specs.Taking.{is_text, AreTaken, HasTaken, IsLong, IsTurnedAway, IsOfTaker, IsTakeReason, Consumes, IsCut, TookAllOf}
 use Rattle.dia_lines.specs.declared.line_taker.LineTaker.{Ghosts}
 use Rattle.dia_lines.specs.declared.cutter.Cutter.{Cutter}
 use Rattle.dia_lines.specs.declared.cutter.TakeErr.{TakeErr}

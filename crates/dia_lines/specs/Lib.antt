@@ -4,3 +4,4 @@ pub mod Places
 pub mod Taking
 pub mod Inputs
 pub mod Fitting
+pub mod Longest

@@ -4,6 +4,7 @@ ghost use Rattle.row_defs.specs.Limits.{longest_text};
 ghost use Rattle.row_defs.specs.Pieces.{line_row};
 ghost use Rattle.dia_lines.specs.Fitting.{AllFit};
 ghost use Rattle.dia_lines.specs.Blocks.{rows_of_blocks};
+ghost use Rattle.dia_lines.specs.Longest.{longest_of};
 
 use crate::block::Block;
 use crate::iter::Iter;
@@ -21,6 +22,8 @@ use std::sync::Wait;
 pub struct LineRows {
     full: Vec<Block>,
     last: Block,
+    // how many bytes the longest text has
+    longest: usize,
 }
 
 impl Model for LineRows {
@@ -29,9 +32,13 @@ impl Model for LineRows {
 
     ghost Value = { List Row };
 
+    ghost use Rattle.std.specs.Prelude.{◌≡◌};
     ghost use Rattle.dia_lines.specs.Blocks.{rows_of_blocks};
+    ghost use Rattle.dia_lines.specs.Longest.{longest_of};
 
     ghost view = { λ r. rows_of_blocks r.full.items ++ r.last };
+
+    ghost invariant = { λ r. r.longest ≡ longest_of (rows_of_blocks r.full.items ++ r.last) };
 }
 
 impl LineTaker for LineRows {
@@ -104,6 +111,7 @@ impl LineRows {
         Ok(LineRows {
             full: Vec::new(alloc),
             last: Block::new(alloc)?,
+            longest: 0,
         })
     }
 
@@ -129,11 +137,21 @@ impl LineRows {
         ensures ok { OnOk result (self.new ≡ self.old ++ line_row (prefix.now ++ suffix.now) ∷ []) }
         ensures err { OnErr result (self.new ≡ self.old) }
     {
+        let len = prefix.len() + suffix.len();
         let room = self.last.bytes.capacity() - self.last.bytes.len();
-        if room < 4 + prefix.len() + suffix.len() {
+        if room < 4 + len {
             self.turn()?;
         }
-        self.last.push(prefix, suffix)
+        self.last.push(prefix, suffix)?;
+        self.longest = self.longest.max(len);
+        Ok(())
+    }
+
+    /// How many bytes the longest text has; 0 where there are no rows.
+    pub fn longest(&self) -> usize
+        ensures { result ≡ longest_of self.now }
+    {
+        self.longest
     }
 
     /// How many rows there are, or `u64::MAX` where there are more. Each of them fits.

@@ -1,5 +1,5 @@
 -- The rows of sources, one after the other.
-use Rattle.std.proofs.Common.{◌≡◌, ℕ, suc, ◌+◌, ◌-◌, ◌<◌, ◌≤◌, zero, List, [], ◌∷◌, ◌++◌, length, map, Option, Result, Ok, Err, IfErr, OnOk, append_assoc, refl, sym, ap, ◌∙◌, subst, arith}
+use Rattle.std.proofs.Common.{◌≡◌, ℕ, suc, ◌+◌, ◌-◌, ◌<◌, List, [], ◌∷◌, ◌++◌, map, Option, Result, Ok, Err, IfErr, OnOk, append_assoc, sym, ap, ◌∙◌, subst, arith}
 use Rattle.std.specs.List.{range_with_len}
 use Rattle.row_defs.specs.declared.kind.Kind.TheVariants.{Text}
 use Rattle.row_defs.specs.Rows.{Row, kinds_of, number_row}
