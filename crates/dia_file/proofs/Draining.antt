@@ -1,9 +1,9 @@
 -- A reader that frees its blocks, from row to row.
-use Rattle.std.proofs.Common.{◌≡◌, ℕ, ◌+◌, ◌≤◌, ◌<◌, ⊎_elim, true, List, [], ◌∷◌, ◌++◌, length, take, drop, Option, None, Some, IfSome, IfNone, OnSome, refl, sym, ap, subst, ◌∙◌, length-append, arith}
+use Rattle.std.proofs.Common.{◌≡◌, ℕ, ◌+◌, ◌≤◌, ◌<◌, ⊎_elim, true, List, [], ◌∷◌, ◌++◌, length, take, drop, Option, None, Some, refl, sym, ap, subst, ◌∙◌, length-append, arith}
 use Rattle.std.proofs.lemmas.List.{map-append, take-append-drop}
 use Rattle.std.proofs.lemmas.List.Elements.{recursion_from_All, All-from_recursion}
 use Rattle.row_defs.specs.declared.kind.Kind.{Kind}
-use Rattle.row_defs.specs.Rows.{Row, kinds_of}
+use Rattle.row_defs.specs.Rows.{Row}
 use Rattle.dia_item.specs.KindList.{kind_list}
 use Rattle.dia_item.specs.Lent.{row_in_ref}
 use Rattle.dia_item.specs.declared.row_ref.RowRef.{RowRef}
@@ -19,7 +19,7 @@ use Rattle.dia_file.specs.Encoding.{encoded}
 use Rattle.dia_file.specs.Pieces.{over}
 use Rattle.dia_file.specs.Frames.{blocks_of, AllSealedIn, AreBlocksOf}
 use Rattle.dia_file.specs.Files.{joined_blocks}
-use Rattle.dia_file.specs.Places.{at_spot, shown_bytes, held_list, pins, block_count, ahead_items, file_items, begun_at, current, rows_left, Leaves, IsPlaced, Telling, Tells, Moved, GaveRow, GivesNone}
+use Rattle.dia_file.specs.Places.{at_spot, held_list, pins, block_count, ahead_items, file_items, begun_at, current, rows_left, Leaves, IsPlaced, Telling, Tells, Moved}
 use Rattle.dia_file.specs.Tallies.{Frees}
 use Rattle.dia_file.specs.Readers.{IsReading, Gives, StaysAt}
 use Rattle.dia_file.specs.Consumers.{ConsumerValue, consumer_value, spot, IsConsumer, Drains}
@@ -27,7 +27,7 @@ use Rattle.dia_file.proofs.Tallying.{count_blocks}
 use Rattle.dia_file.proofs.RowBytes.{encoded-append}
 use Rattle.dia_file.proofs.FileLemmas.{in_bytes}
 use Rattle.dia_file.proofs.Steps.{left_told}
-use Rattle.dia_file.proofs.ReaderLemmas.{same_pool, none_or_some, pins_le, Ready, here_ready, gave, missed, misses_next, after_give}
+use Rattle.dia_file.proofs.ReaderLemmas.{same_pool, none_or_some, pins_le, GivenAt, Ready, here_ready, gave, missed, misses_next, after_give}
 
 abbrev pub moved_to : Inside → Place → ℕ → ℕ → ℕ → Inside
 moved_to w p a h k = record w { place = p; at = a; here = h; kept = k }
@@ -160,19 +160,9 @@ pub stood :
 stood w v first last is same reading own some =
     arrived w v first first last w.place w.at w.here w.kept is same (here_ready (kind_list w.kinds) first.pool w.place w.at w.here w.kept reading own some) refl (refl, refl) (follows_refl first)
 
--- what `give` answered there
-pub record GivenAt (v : Inside) (o : Option RowRef) (b i j : ℕ) : Type 0 where
-  pub within : b ≤ length (shown_bytes v.place.shown)
-  pub kept : j ≡ 0
-  pub reads : IfSome o (λ row. GaveRow (kind_list v.kinds) (spot v) (row_in_ref row) (at_spot v.place b i j))
-  pub are : IfSome o (λ row. kinds_of (row_in_ref row) ≡ kind_list v.kinds)
-  pub some : OnSome o (i + 1 ≡ v.here)
-  pub none : IfNone o (GivesNone (kind_list v.kinds) (spot v))
-  pub stays : IfNone o (i ≡ v.here)
-
-pub consumer_after : (w v : Inside) (first last : HandValue) (o : Option RowRef) (b i j : ℕ) → IsConsumer w → Arrived w v first last → GivenAt v o b i j → IsConsumer (moved_to v v.place b i j)
+pub consumer_after : (w v : Inside) (first last : HandValue) (o : Option RowRef) (b i j : ℕ) → IsConsumer w → Arrived w v first last → GivenAt (kind_list v.kinds) (spot v) o b i j → IsConsumer (moved_to v v.place b i j)
 consumer_after w v first last o b i j consumer x =
-    let To : Inside → Type 0 = λ y. GivenAt y o b i j → IsConsumer (moved_to y y.place b i j) in
+    let To : Inside → Type 0 = λ y. GivenAt (kind_list y.kinds) (spot y) o b i j → IsConsumer (moved_to y y.place b i j) in
     subst To x.is (λ e.
     let reading = after_give row_in_ref o (kind_list w.kinds) (spot w) first.pool x.p x.a x.h x.k b i j x.ready e.within e.kept e.reads e.are e.some e.none e.stays in
     consumer_moved w first.pool x.p x.a x.h x.k b i j consumer x.ready.moved reading)
@@ -186,9 +176,9 @@ pub record GaveOn (v : Inside) (value : ConsumerValue) (first last : HandValue) 
 
 pub gave_on :
     (w v : Inside) (value : ConsumerValue) (first last : HandValue) (row : RowRef) (b i j : ℕ) → consumer_value w ≡ value → IsConsumer w → AreOfPool first.pool value.blocks
-    → Arrived w v first last → GivenAt v (Some row) b i j → GaveOn v value first last (row_in_ref row) b i j
+    → Arrived w v first last → GivenAt (kind_list v.kinds) (spot v) (Some row) b i j → GaveOn v value first last (row_in_ref row) b i j
 gave_on w v value first last row b i j is consumer own x =
-    let To : Inside → Type 0 = λ y. GivenAt y (Some row) b i j → GaveOn y value first last (row_in_ref row) b i j in
+    let To : Inside → Type 0 = λ y. GivenAt (kind_list y.kinds) (spot y) (Some row) b i j → GaveOn y value first last (row_in_ref row) b i j in
     subst To x.is (λ e.
     let reading = after_give row_in_ref (Some row) (kind_list w.kinds) (spot w) first.pool x.p x.a x.h x.k b i j x.ready e.within e.kept e.reads e.are e.some e.none e.stays in
     let pinned = ap (λ (z : ConsumerValue). z.pinned) is in
@@ -210,9 +200,9 @@ pub record MissedOn (v : Inside) (value : ConsumerValue) (first last : HandValue
 
 pub missed_on :
     (w v : Inside) (value : ConsumerValue) (first last : HandValue) (b i j : ℕ) → consumer_value w ≡ value → IsConsumer w → AreOfPool first.pool value.blocks
-    → Arrived w v first last → GivenAt v None b i j → MissedOn v value first last b i j
+    → Arrived w v first last → GivenAt (kind_list v.kinds) (spot v) None b i j → MissedOn v value first last b i j
 missed_on w v value first last b i j is consumer own x =
-    let To : Inside → Type 0 = λ y. GivenAt y None b i j → MissedOn y value first last b i j in
+    let To : Inside → Type 0 = λ y. GivenAt (kind_list y.kinds) (spot y) None b i j → MissedOn y value first last b i j in
     subst To x.is (λ e.
     let nothing : Option RowRef = None in
     let reading = after_give row_in_ref nothing (kind_list w.kinds) (spot w) first.pool x.p x.a x.h x.k b i j x.ready e.within e.kept e.reads e.are e.some e.none e.stays in

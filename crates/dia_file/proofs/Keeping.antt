@@ -1,6 +1,6 @@
 -- A keeping reader: its file stays from row to row.
-use Rattle.std.proofs.Common.{◌≡◌, ℕ, ◌+◌, ◌≤◌, ◌<◌, true, List, length, Option, None, Some, IfSome, IfNone, OnSome, refl, sym, ap, subst, ◌∙◌, arith}
-use Rattle.row_defs.specs.Rows.{Row, kinds_of}
+use Rattle.std.proofs.Common.{◌≡◌, ℕ, ◌+◌, ◌≤◌, ◌<◌, true, List, length, Option, None, Some, refl, sym, ap, subst, ◌∙◌, arith}
+use Rattle.row_defs.specs.Rows.{Row}
 use Rattle.dia_item.specs.KindList.{kind_list}
 use Rattle.dia_item.specs.Lent.{row_in_ref}
 use Rattle.dia_item.specs.declared.row_ref.RowRef.{RowRef}
@@ -13,11 +13,11 @@ use Rattle.dia_file.specs.declared.place.Place.{Place}
 use Rattle.dia_file.specs.declared.keep.KeepReader.TheInside.{Inside}
 use Rattle.dia_file.specs.Frames.{blocks_of, AreBlocksOf}
 use Rattle.dia_file.specs.Files.{IsFileOf, IsStored, rows_stored}
-use Rattle.dia_file.specs.Places.{at_spot, shown_bytes, pins, block_count, file_items, Leaves, IsPlaced, Moved, GaveRow, GivesNone}
+use Rattle.dia_file.specs.Places.{at_spot, pins, block_count, file_items, Leaves, IsPlaced, Moved}
 use Rattle.dia_file.specs.Readers.{KeeperValue, keeper_value, spot, IsReading, IsKeeper, Keeps, Gives, StaysAt}
 use Rattle.dia_file.specs.Tallies.{Frees}
 use Rattle.dia_file.proofs.Tallying.{count_placed, frees_none}
-use Rattle.dia_file.proofs.ReaderLemmas.{pins_le, Ready, here_ready, gave, missed, misses_next, after_give}
+use Rattle.dia_file.proofs.ReaderLemmas.{pins_le, GivenAt, Ready, here_ready, gave, missed, misses_next, after_give}
 
 abbrev pub moved_to : Inside → Place → ℕ → ℕ → ℕ → Inside
 moved_to w p a h k = record w { place = p; at = a; here = h; kept = k }
@@ -96,19 +96,9 @@ pub stood :
 stood w v first last is same reading own some =
     arrived w v first first last w.place w.at w.here w.kept is same (here_ready (kind_list w.kinds) first.pool w.place w.at w.here w.kept reading own some) refl (refl, refl) (follows_refl first)
 
--- what `give` answered there
-pub record GivenAt (v : Inside) (o : Option RowRef) (b i j : ℕ) : Type 0 where
-  pub within : b ≤ length (shown_bytes v.place.shown)
-  pub kept : j ≡ 0
-  pub reads : IfSome o (λ row. GaveRow (kind_list v.kinds) (spot v) (row_in_ref row) (at_spot v.place b i j))
-  pub are : IfSome o (λ row. kinds_of (row_in_ref row) ≡ kind_list v.kinds)
-  pub some : OnSome o (i + 1 ≡ v.here)
-  pub none : IfNone o (GivesNone (kind_list v.kinds) (spot v))
-  pub stays : IfNone o (i ≡ v.here)
-
-pub keeper_after : (w v : Inside) (first last : HandValue) (o : Option RowRef) (b i j : ℕ) → IsKeeper w → Arrived w v first last → GivenAt v o b i j → IsKeeper (moved_to v v.place b i j)
+pub keeper_after : (w v : Inside) (first last : HandValue) (o : Option RowRef) (b i j : ℕ) → IsKeeper w → Arrived w v first last → GivenAt (kind_list v.kinds) (spot v) o b i j → IsKeeper (moved_to v v.place b i j)
 keeper_after w v first last o b i j keeper x =
-    let To : Inside → Type 0 = λ y. GivenAt y o b i j → IsKeeper (moved_to y y.place b i j) in
+    let To : Inside → Type 0 = λ y. GivenAt (kind_list y.kinds) (spot y) o b i j → IsKeeper (moved_to y y.place b i j) in
     subst To x.is (λ e.
     let reading = after_give row_in_ref o (kind_list w.kinds) (spot w) first.pool x.p x.a x.h x.k b i j x.ready e.within e.kept e.reads e.are e.some e.none e.stays in
     keeper_moved w first.pool x.p x.a x.h x.k b i j keeper x.ready.moved reading)
@@ -122,10 +112,10 @@ pub record GaveOn (v : Inside) (value : KeeperValue) (first last : HandValue) (r
   pub tally : SameTally first.notes last.notes
 
 pub gave_on :
-    (w v : Inside) (value : KeeperValue) (first last : HandValue) (row : RowRef) (b i j : ℕ) → keeper_value w ≡ value → IsKeeper w → Arrived w v first last → GivenAt v (Some row) b i j
+    (w v : Inside) (value : KeeperValue) (first last : HandValue) (row : RowRef) (b i j : ℕ) → keeper_value w ≡ value → IsKeeper w → Arrived w v first last → GivenAt (kind_list v.kinds) (spot v) (Some row) b i j
     → GaveOn v value first last (row_in_ref row) b i j
 gave_on w v value first last row b i j is keeper x =
-    let To : Inside → Type 0 = λ y. GivenAt y (Some row) b i j → GaveOn y value first last (row_in_ref row) b i j in
+    let To : Inside → Type 0 = λ y. GivenAt (kind_list y.kinds) (spot y) (Some row) b i j → GaveOn y value first last (row_in_ref row) b i j in
     subst To x.is (λ e.
     let on = kept_on w value first last x.p x.a x.h x.k b i j is keeper x.ready.placed x.ready.moved x.permits x.gone in
     let GivesOf : KeeperValue → Type 0 = λ z. Gives first.pool z.file.kinds z.left (row_in_ref row) (keeper_value (moved_to w x.p b i j)).left in
@@ -146,10 +136,10 @@ pub record MissedOn (v : Inside) (value : KeeperValue) (first last : HandValue) 
   pub tally : SameTally first.notes last.notes
 
 pub missed_on :
-    (w v : Inside) (value : KeeperValue) (first last : HandValue) (b i j : ℕ) → keeper_value w ≡ value → IsKeeper w → Arrived w v first last → GivenAt v None b i j
+    (w v : Inside) (value : KeeperValue) (first last : HandValue) (b i j : ℕ) → keeper_value w ≡ value → IsKeeper w → Arrived w v first last → GivenAt (kind_list v.kinds) (spot v) None b i j
     → MissedOn v value first last b i j
 missed_on w v value first last b i j is keeper x =
-    let To : Inside → Type 0 = λ y. GivenAt y None b i j → MissedOn y value first last b i j in
+    let To : Inside → Type 0 = λ y. GivenAt (kind_list y.kinds) (spot y) None b i j → MissedOn y value first last b i j in
     subst To x.is (λ e.
     let on = kept_on w value first last x.p x.a x.h x.k b i j is keeper x.ready.placed x.ready.moved x.permits x.gone in
     let StaysOf : KeeperValue → Type 0 = λ z. StaysAt first.pool z.left (keeper_value (moved_to w x.p b i j)).left in

@@ -5,6 +5,8 @@ use Rattle.std.specs.List.{sum_by}
 use Rattle.std.specs.Bool.{OnTrue, OnFalse}
 use Rattle.row_defs.specs.declared.kind.Kind.{Kind}
 use Rattle.row_defs.specs.Rows.{Row, kinds_of}
+use Rattle.dia_item.specs.Lent.{row_in_ref}
+use Rattle.dia_item.specs.declared.row_ref.RowRef.{RowRef}
 use Rattle.block_pool.specs.Handles.{PoolName}
 use Rattle.dia_file.specs.declared.sealed.Sealed.{Sealed}
 use Rattle.dia_file.specs.declared.place.Held.{Held}
@@ -335,3 +337,13 @@ here_ready kinds pool p a h k i own some = record {
   some = some;
   start = λ kept. let none = i.alone some in absurd (omega (arith, none, kept));
 }
+
+-- what `give` answered at a place
+pub record GivenAt (kinds : List Kind) (x : Place) (o : Option RowRef) (b i j : ℕ) : Type 0 where
+  pub within : b ≤ length (shown_bytes x.shown)
+  pub kept : j ≡ 0
+  pub reads : IfSome o (λ row. GaveRow kinds x (row_in_ref row) (at_spot x b i j))
+  pub are : IfSome o (λ row. kinds_of (row_in_ref row) ≡ kinds)
+  pub some : OnSome o (i + 1 ≡ x.here)
+  pub none : IfNone o (GivesNone kinds x)
+  pub stays : IfNone o (i ≡ x.here)

@@ -6,8 +6,8 @@ use Rattle.dia_file.specs.declared.consume.ConsumeReader.TheInside.{Inside}
 use Rattle.dia_file.specs.Places.{at_spot, Tells}
 use Rattle.dia_file.specs.Readers.{StaysAt}
 use Rattle.dia_file.specs.Consumers.{ConsumerValue, consumer_value, spot}
-use Rattle.dia_file.proofs.ReaderLemmas.{placed_at, same_pool, moved_keeps, moved_stays, moved_end, readied, pins_le, on_false}
-use Rattle.dia_file.proofs.Draining.{moved_to, own_items, consumer_moved, no_blocks, drains, Arrived, arrived, stood, GivenAt, consumer_after, gave_on, missed_on}
+use Rattle.dia_file.proofs.ReaderLemmas.{placed_at, same_pool, moved_keeps, moved_stays, moved_end, readied, GivenAt, pins_le, on_false}
+use Rattle.dia_file.proofs.Draining.{moved_to, own_items, consumer_moved, no_blocks, drains, Arrived, arrived, stood, consumer_after, gave_on, missed_on}
 use Rattle.dia_file.proofs.consume.ConsumeReader.next.Goals as goal
 use Rattle.dia_file.proofs.consume.ConsumeReader.next.Goals.{then-self-eq0+in_ok-more+else-not-more, else-self-eq0}
 
@@ -97,7 +97,7 @@ invariant_of-self-2 g c =
       | else-self-eq0 x ↦ stood w v first last x.self-inside-is x.hand-is c.self.invariant.reading own (omega (arith, x.if-self-eq0.false))
     ] in
     let e = c.give.ensures in
-    let given : GivenAt v c.give.result c.give.new.at c.give.new.here c.give.new.kept = record { within = e.within; kept = e.kept; reads = e.reads; are = e.are; some = e.some; none = e.none; stays = e.stays } in
+    let given : GivenAt (kind_list v.kinds) (spot v) c.give.result c.give.new.at c.give.new.here c.give.new.kept = record { within = e.within; kept = e.kept; reads = e.reads; are = e.are; some = e.some; none = e.none; stays = e.stays } in
     consumer_after w v first last c.give.result c.give.new.at c.give.new.here c.give.new.kept c.self.invariant there given
 
 pub returns-in-Some : goal.returns-in-Some
@@ -118,7 +118,7 @@ returns-in-Some g c =
     ] in
     let e = c.give.ensures in
     let s = c.in-Some.ensures in
-    let given : GivenAt v (Some c.in-Some.row) c.give.new.at c.give.new.here c.give.new.kept = record { within = e.within; kept = e.kept; reads = s.reads; are = s.are; some = s.some; none = tt; stays = tt } in
+    let given : GivenAt (kind_list v.kinds) (spot v) (Some c.in-Some.row) c.give.new.at c.give.new.here c.give.new.kept = record { within = e.within; kept = e.kept; reads = s.reads; are = s.are; some = s.some; none = tt; stays = tt } in
     let on = gave_on w v c.args.self.now first last c.in-Some.row c.give.new.at c.give.new.here c.give.new.kept c.self.view_is c.self.invariant c.requires.own there given in
     ((refl, λ _. tt, (((on.gives, on.one), tt), tt, on.drained)), record { refused = tt; room = on.room; follows = there.follows; after = tt })
 
@@ -140,6 +140,6 @@ returns-in-None g c =
     ] in
     let e = c.give.ensures in
     let n = c.in-None.ensures in
-    let given : GivenAt v None c.give.new.at c.give.new.here c.give.new.kept = record { within = e.within; kept = e.kept; reads = tt; are = tt; some = tt; none = n.none; stays = n.stays } in
+    let given : GivenAt (kind_list v.kinds) (spot v) None c.give.new.at c.give.new.here c.give.new.kept = record { within = e.within; kept = e.kept; reads = tt; are = tt; some = tt; none = n.none; stays = n.stays } in
     let on = missed_on w v c.args.self.now first last c.give.new.at c.give.new.here c.give.new.kept c.self.view_is c.self.invariant c.requires.own there given in
     ((refl, λ _. tt, (tt, on.stays, on.drained)), record { refused = on.untold; room = on.room; follows = there.follows; after = tt })

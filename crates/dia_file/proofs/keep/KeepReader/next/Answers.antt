@@ -5,8 +5,8 @@ use Rattle.dia_file.specs.declared.place.Place.{Place}
 use Rattle.dia_file.specs.declared.keep.KeepReader.TheInside.{Inside}
 use Rattle.dia_file.specs.Places.{pins, Tells}
 use Rattle.dia_file.specs.Readers.{KeeperValue, keeper_value, spot, StaysAt}
-use Rattle.dia_file.proofs.ReaderLemmas.{placed_at, same_pool, moved_keeps, moved_stays, moved_end, readied, on_false}
-use Rattle.dia_file.proofs.Keeping.{moved_to, own_items, keeper_moved, kept_on, Arrived, arrived, stood, GivenAt, keeper_after, gave_on, missed_on}
+use Rattle.dia_file.proofs.ReaderLemmas.{placed_at, same_pool, moved_keeps, moved_stays, moved_end, readied, GivenAt, on_false}
+use Rattle.dia_file.proofs.Keeping.{moved_to, own_items, keeper_moved, kept_on, Arrived, arrived, stood, keeper_after, gave_on, missed_on}
 use Rattle.dia_file.proofs.keep.KeepReader.next.Goals as goal
 use Rattle.dia_file.proofs.keep.KeepReader.next.Goals.{then-self-eq0+in_ok-more+else-not-more, else-self-eq0}
 
@@ -90,7 +90,7 @@ invariant_of-self-2 g c =
       | else-self-eq0 x ↦ stood w v first last x.self-inside-is x.hand-is c.self.invariant.reading own (omega (arith, x.if-self-eq0.false))
     ] in
     let e = c.give.ensures in
-    let given : GivenAt v c.give.result c.give.new.at c.give.new.here c.give.new.kept = record { within = e.within; kept = e.kept; reads = e.reads; are = e.are; some = e.some; none = e.none; stays = e.stays } in
+    let given : GivenAt (kind_list v.kinds) (spot v) c.give.result c.give.new.at c.give.new.here c.give.new.kept = record { within = e.within; kept = e.kept; reads = e.reads; are = e.are; some = e.some; none = e.none; stays = e.stays } in
     keeper_after w v first last c.give.result c.give.new.at c.give.new.here c.give.new.kept c.self.invariant there given
 
 pub returns-in-Some : goal.returns-in-Some
@@ -111,7 +111,7 @@ returns-in-Some g c =
     ] in
     let e = c.give.ensures in
     let s = c.in-Some.ensures in
-    let given : GivenAt v (Some c.in-Some.row) c.give.new.at c.give.new.here c.give.new.kept = record { within = e.within; kept = e.kept; reads = s.reads; are = s.are; some = s.some; none = tt; stays = tt } in
+    let given : GivenAt (kind_list v.kinds) (spot v) (Some c.in-Some.row) c.give.new.at c.give.new.here c.give.new.kept = record { within = e.within; kept = e.kept; reads = s.reads; are = s.are; some = s.some; none = tt; stays = tt } in
     let on = gave_on w v c.args.self.now first last c.in-Some.row c.give.new.at c.give.new.here c.give.new.kept c.self.view_is c.self.invariant there given in
     ((refl, λ _. tt, (((on.gives, on.one), tt), tt, on.keeps)), record { refused = tt; room = on.room; tally = on.tally; follows = there.follows; after = tt })
 
@@ -133,6 +133,6 @@ returns-in-None g c =
     ] in
     let e = c.give.ensures in
     let n = c.in-None.ensures in
-    let given : GivenAt v None c.give.new.at c.give.new.here c.give.new.kept = record { within = e.within; kept = e.kept; reads = tt; are = tt; some = tt; none = n.none; stays = n.stays } in
+    let given : GivenAt (kind_list v.kinds) (spot v) None c.give.new.at c.give.new.here c.give.new.kept = record { within = e.within; kept = e.kept; reads = tt; are = tt; some = tt; none = n.none; stays = n.stays } in
     let on = missed_on w v c.args.self.now first last c.give.new.at c.give.new.here c.give.new.kept c.self.view_is c.self.invariant there given in
     ((refl, λ _. tt, (tt, on.stays, on.keeps)), record { refused = on.untold; room = on.room; tally = on.tally; follows = there.follows; after = tt })
