@@ -26,6 +26,10 @@ pub follow_refl : (hands : List HandValue) → AllZip Follows hands hands
 follow_refl [] = tt
 follow_refl (a ∷ hands) = (follows_refl a, follow_refl hands)
 
+pub permits_refl : (hands : List HandValue) → AllZip (λ (a b : HandValue). b.permits ≡ a.permits) hands hands
+permits_refl [] = tt
+permits_refl (a ∷ hands) = (refl, permits_refl hands)
+
 -- sinks that each hand with a permit serves
 module _ {S R : Type 0} (g : Ghosts S HandValue R) (Is : S → Type 0) (to : Kinds) (accepts : (s : S) → Is s → g.accepts s to) (is_open : (s : S) → Is s → g.is_shut s ≡ false) (serves : (s : S) (a : HandValue) → g.serves s a) where
   pub can_take : (sinks : List S) (hands : List HandValue) → length sinks ≡ length hands → All Is sinks → All HasPermit hands → AllZip (CanTake g to) sinks hands
@@ -33,13 +37,15 @@ module _ {S R : Type 0} (g : Ghosts S HandValue R) (Is : S → Type 0) (to : Kin
   can_take [] (a ∷ hands) long all permits = absurd (omega (arith, long))
   can_take (s ∷ sinks) [] long all permits = absurd (omega (arith, long))
   can_take (s ∷ sinks) (a ∷ hands) long all permits =
-      let is = All-head Is s sinks all in
-      (record {
-        accepts = accepts s is;
-        is_open = is_open s is;
-        serves = λ b same more. serves s b;
-        permit = All-head HasPermit a hands permits;
-      }, can_take sinks hands (omega (arith, long)) (All-tail Is s sinks all) (All-tail HasPermit a hands permits))
+      let is = All-head Is s sinks all in (
+        record {
+          accepts = accepts s is;
+          is_open = is_open s is;
+          serves = λ b same more. serves s b;
+          permit = All-head HasPermit a hands permits;
+        },
+        can_take sinks hands (omega (arith, long)) (All-tail Is s sinks all) (All-tail HasPermit a hands permits),
+      )
 
 -- sinks that count
 module _ {S : Type 0} (g : Ghosts S HandValue TooManyRows) (counted : S → ℕ) (counts : (s t : S) (rows : List Row) → g.took s rows t → counted t ≡ counted s + length rows)

@@ -1,3 +1,5 @@
 pub mod TurnCounts
 pub mod Counts
 pub mod TurnSums
+pub mod Worked
+pub mod Kept

@@ -1,8 +1,8 @@
 -- What a count of all workers comes to.
-use Rattle.std.specs.Prelude.{◌≡◌, ◌<◌, ℕ, false, List, All, ⊤, length}
+use Rattle.std.specs.Prelude.{◌≡◌, ◌<◌, ℕ, Bool, true, false, List, All, ⊤, length}
 use Rattle.row_defs.specs.Limits.{most_rows}
 use Rattle.row_defs.specs.Rows.{Row}
-use Rattle.row_defs.specs.LocalOps.{LocalOp}
+use Rattle.row_defs.specs.LocalOps.{LocalOp, map_op, filter_op, words_op, spread_op}
 use Rattle.row_defs.specs.Operands.{Root}
 use Rattle.block_pool.specs.Handles.{HandValue}
 use Rattle.lop_chain.specs.Ops.{rows_from}
@@ -30,3 +30,10 @@ CountRefused lines root ops hands now (Sink e) = AreTold root hands → most_row
 CountRefused lines root ops hands now (Disk count) = SomeHit hands now count
 CountRefused lines root ops hands now Damaged = All Tells hands → ⊥
 CountRefused lines root ops hands now NoMemory = ⊤
+
+-- the line makes one row of each row
+abbrev pub keeps_number : LocalOp → Bool
+keeps_number (map_op exprs) = true
+keeps_number (filter_op e) = false
+keeps_number (words_op c) = false
+keeps_number (spread_op c count) = false

@@ -19,7 +19,7 @@ ghost use Rattle.feed_actions.specs.Acting.{act_refusal, size_text, sum_text, Wr
 
 use crate::adding::sum_all;
 use crate::counter::TooManyRows;
-use crate::counting::count_all;
+use crate::counting::rows_arriving;
 use block_pool::Hand;
 use dia_edge::{Disk, Failed, Gate, Sink};
 use lop_chain::Operand;
@@ -77,18 +77,12 @@ fn put_number<S: Sink>(n: u64, out: &mut S) -> Result<(), ActErr>
     }
 }
 
-/// Writes how many rows arrive, counted by all workers in one phase.
+/// Writes how many rows arrive. They are counted by all workers in one phase, but no block is read where the chain makes one
+/// row of each and the root is used again.
 ///
 /// After a refusal nothing was written, but that after `Write` some prefix of the text was. On every answer each hand is there,
 /// and the lines are in stock as before with no part lent, but that where this is the last use the root's line is gone.
-pub fn size<
-    'p,
-    R: Threads + Wait + Sync,
-    G: Gate + Sync,
-    D: Disk + Send + Sync,
-    X: Net,
-    S: Sink,
->(
+pub fn size<'p, R: Threads + Wait + Sync, G: Gate + Sync, D: Disk + Send + Sync, X: Net, S: Sink>(
     rt: &R,
     alloc: Global,
     way: &mut Way<'_, G>,
@@ -121,7 +115,7 @@ pub fn size<
     ensures net { stock.new.net ≡ stock.old.net }
     ensures workers { stock.new.workers ≡ stock.old.workers }
 {
-    match count_all(rt, alloc, way, stock, operand, last, hands) {
+    match rows_arriving(rt, alloc, way, stock, operand, last, hands) {
         Ok(rows) => put_number(rows, out),
         Err(fault) => Err(refusal_of(fault)),
     }
@@ -129,14 +123,7 @@ pub fn size<
 
 /// Writes the sum of a column of the rows that arrive, modulo 2^64, added up by all workers in one phase. What else holds is as
 /// at `size`.
-pub fn sum<
-    'p,
-    R: Threads + Wait + Sync,
-    G: Gate + Sync,
-    D: Disk + Send + Sync,
-    X: Net,
-    S: Sink,
->(
+pub fn sum<'p, R: Threads + Wait + Sync, G: Gate + Sync, D: Disk + Send + Sync, X: Net, S: Sink>(
     rt: &R,
     alloc: Global,
     way: &mut Way<'_, G>,

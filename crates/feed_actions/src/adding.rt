@@ -69,13 +69,7 @@ fn sum<D: Disk>(summers: &[Summer<'_, D>]) -> u64
 }
 
 /// One phase: each worker adds up a column of what is made of the rows of its feed.
-fn sum_phase<
-    'p,
-    R: Threads + Wait + Sync,
-    G: Gate + Sync,
-    D: Disk + Send + Sync,
-    X: Net,
->(
+fn sum_phase<'p, R: Threads + Wait + Sync, G: Gate + Sync, D: Disk + Send + Sync, X: Net>(
     rt: &R,
     alloc: Global,
     way: &mut Way<'_, G>,
@@ -108,23 +102,18 @@ fn sum_phase<
     ensures net { stock.new.net ≡ stock.old.net }
     ensures workers { stock.new.workers ≡ stock.old.workers }
 {
-    let mut phase: Phase<'p, D, X, Summer<'p, D>> =
-        match Phase::begin(alloc, stock, operand, last, hands, summers) {
-            Ok(phase) => phase,
-            Err(NoMemory) => return Err(FeedErr::NoMemory),
-        };
+    let mut phase: Phase<'p, D, X, Summer<'p, D>> = match Phase::begin(
+        alloc, stock, operand, last, hands, summers,
+    ) {
+        Ok(phase) => phase,
+        Err(NoMemory) => return Err(FeedErr::NoMemory),
+    };
     let answer = run_hands(rt, alloc, way, hands, &mut phase.sends);
     phase.finish(rt, alloc, stock, hands, summers, answer)
 }
 
 /// The sum of a column of the rows that arrive, modulo 2^64, by all workers in one phase.
-pub(crate) fn sum_all<
-    'p,
-    R: Threads + Wait + Sync,
-    G: Gate + Sync,
-    D: Disk + Send + Sync,
-    X: Net,
->(
+pub(crate) fn sum_all<'p, R: Threads + Wait + Sync, G: Gate + Sync, D: Disk + Send + Sync, X: Net>(
     rt: &R,
     alloc: Global,
     way: &mut Way<'_, G>,
@@ -160,7 +149,17 @@ pub(crate) fn sum_all<
         Ok(summers) => summers,
         Err(NoMemory) => return Err(FeedErr::NoMemory),
     };
-    sum_phase(rt, alloc, way, stock, operand, last, column, hands, &mut summers)?;
+    sum_phase(
+        rt,
+        alloc,
+        way,
+        stock,
+        operand,
+        last,
+        column,
+        hands,
+        &mut summers,
+    )?;
     match few(total(summers.as_slice())) {
         Ok(_) => Ok(sum(summers.as_slice())),
         Err(refusal) => Err(FeedErr::Sink(refusal)),

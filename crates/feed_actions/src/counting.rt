@@ -14,6 +14,7 @@ ghost use Rattle.feed_actions.specs.Told.{AreTold, HasPermit};
 ghost use Rattle.feed_actions.specs.Counting.{arriving, CountRefused, IsFreshCounter, rows_counted};
 
 use crate::counter::{Counter, TooManyRows};
+use crate::known::known_count;
 use block_pool::Hand;
 use dia_edge::{Disk, Gate, NoMemory};
 use hand_phase::run_hands;
@@ -26,10 +27,7 @@ use std::thread::Threads;
 use worker_step::{MOST_TASKS, Way};
 
 /// So many counters, of no rows yet.
-fn counters_for<'p, D: Disk>(
-    alloc: Global,
-    count: usize,
-) -> Result<Vec<Counter<'p, D>>, NoMemory>
+fn counters_for<'p, D: Disk>(alloc: Global, count: usize) -> Result<Vec<Counter<'p, D>>, NoMemory>
     ensures len { IfOk result (λ counters. vec_len counters ≡ count) }
     ensures fresh { IfOk result (λ counters. All IsFreshCounter counters.items) }
 {
@@ -53,13 +51,7 @@ fn total<D: Disk>(counters: &[Counter<'_, D>]) -> u64
 }
 
 /// One phase: each worker counts what is made of the rows of its feed.
-fn count_phase<
-    'p,
-    R: Threads + Wait + Sync,
-    G: Gate + Sync,
-    D: Disk + Send + Sync,
-    X: Net,
->(
+fn count_phase<'p, R: Threads + Wait + Sync, G: Gate + Sync, D: Disk + Send + Sync, X: Net>(
     rt: &R,
     alloc: Global,
     way: &mut Way<'_, G>,
@@ -91,23 +83,18 @@ fn count_phase<
     ensures net { stock.new.net ≡ stock.old.net }
     ensures workers { stock.new.workers ≡ stock.old.workers }
 {
-    let mut phase: Phase<'p, D, X, Counter<'p, D>> =
-        match Phase::begin(alloc, stock, operand, last, hands, counters) {
-            Ok(phase) => phase,
-            Err(NoMemory) => return Err(FeedErr::NoMemory),
-        };
+    let mut phase: Phase<'p, D, X, Counter<'p, D>> = match Phase::begin(
+        alloc, stock, operand, last, hands, counters,
+    ) {
+        Ok(phase) => phase,
+        Err(NoMemory) => return Err(FeedErr::NoMemory),
+    };
     let answer = run_hands(rt, alloc, way, hands, &mut phase.sends);
     phase.finish(rt, alloc, stock, hands, counters, answer)
 }
 
 /// How many rows arrive, counted by all workers in one phase: no more than may.
-pub(crate) fn count_all<
-    'p,
-    R: Threads + Wait + Sync,
-    G: Gate + Sync,
-    D: Disk + Send + Sync,
-    X: Net,
->(
+fn count_all<'p, R: Threads + Wait + Sync, G: Gate + Sync, D: Disk + Send + Sync, X: Net>(
     rt: &R,
     alloc: Global,
     way: &mut Way<'_, G>,
@@ -143,6 +130,51 @@ pub(crate) fn count_all<
     };
     count_phase(rt, alloc, way, stock, operand, last, hands, &mut counters)?;
     match few(total(counters.as_slice())) {
+        Ok(rows) => Ok(rows),
+        Err(refusal) => Err(FeedErr::Sink(refusal)),
+    }
+}
+
+/// How many rows arrive: no more than may. They are counted only where that isn't known at once.
+pub(crate) fn rows_arriving<
+    'p,
+    R: Threads + Wait + Sync,
+    G: Gate + Sync,
+    D: Disk + Send + Sync,
+    X: Net,
+>(
+    rt: &R,
+    alloc: Global,
+    way: &mut Way<'_, G>,
+    stock: &mut Stock<X>,
+    operand: &Operand,
+    last: bool,
+    hands: &mut Vec<Hand<'p, D>>,
+) -> Result<u64, FeedErr<TooManyRows>>
+    requires few { vec_len hands.old ≤ MOST_TASKS }
+    requires long { vec_len hands.old ≡ stock.old.workers }
+    requires root { HasRoot (lines_of stock.old) (root_in operand.now.root) }
+    requires own { AreInPools (pools_of hands.old.items) (lines_of stock.old) }
+    requires sound { (to : Kinds) × AreSoundOps (root_kinds (lines_of stock.old) (root_in operand.now.root)) (ops_in operand.now.chain.items) to }
+    requires permits { All HasPermit hands.old.items }
+
+    ensures count { IfOk result (λ n. AreTold (root_in operand.now.root) hands.old.items
+        → n ≡ length (arriving (lines_of stock.old) (root_in operand.now.root) (ops_in operand.now.chain.items))) }
+    ensures few { IfOk result (λ n. n ≤ most_rows) }
+    ensures permits { OnOk result (AllZip (λ (a b : HandValue). b.permits ≡ a.permits) hands.old.items hands.new.items) }
+    ensures refused { IfErr result (λ e. CountRefused (lines_of stock.old) (root_in operand.now.root) (ops_in operand.now.chain.items) hands.old.items hands.new.items e) }
+    ensures lines { OnOk result (IsUsed (lines_of stock.old) (root_in operand.now.root) last (lines_of stock.new)) }
+    ensures left { OnErr result (IsUsed (lines_of stock.old) (root_in operand.now.root) last (lines_of stock.new) ⊎ (stock.new ≡ stock.old)) }
+
+    // On every answer.
+    ensures follows { AllZip Follows hands.old.items hands.new.items }
+    ensures net { stock.new.net ≡ stock.old.net }
+    ensures workers { stock.new.workers ≡ stock.old.workers }
+{
+    let Some(rows) = known_count(stock, operand, last) else {
+        return count_all(rt, alloc, way, stock, operand, last, hands);
+    };
+    match few(rows) {
         Ok(rows) => Ok(rows),
         Err(refusal) => Err(FeedErr::Sink(refusal)),
     }

@@ -8,8 +8,12 @@ mod action;
 mod adding;
 mod counter;
 mod counting;
+mod known;
 mod summer;
 
 pub use action::{ActErr, size, sum};
 pub use counter::{Counter, TooManyRows};
 pub use summer::Summer;
+
+#[cfg(test)]
+mod tests;

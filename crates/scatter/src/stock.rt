@@ -1,5 +1,5 @@
 //! Lines in stock.
-ghost use Rattle.std.specs.Prelude.{◌≡◌, ◌<◌, ℕ, List, All, map, length, None, Some, IfOk, IfErr, OnOk, OnErr, vec_len, slice_get, slice_set};
+ghost use Rattle.std.specs.Prelude.{◌≡◌, ◌<◌, ◌-◌, ◌^◌, min, ℕ, List, All, map, length, None, Some, IfOk, IfErr, OnOk, OnErr, vec_len, slice_get, slice_set};
 ghost use Rattle.std.specs.List.{AllZip, flat_map};
 ghost use Rattle.block_pool.specs.Handles.{PoolName};
 ghost use Rattle.dia_file.specs.Files.{FileValue, IsFileOf};
@@ -9,11 +9,11 @@ ghost use Rattle.scatter.specs.Lines.{LineValue, with_parts, first_kinds, HasKin
 
 use crate::feed::Feed;
 use crate::feeding::{chains_of, feed_root};
-use crate::line::{Line, put_back, replace_parts};
+use crate::line::{Line, put_back, replace_parts, rows_in_parts};
 use crate::net::Net;
 use dia_edge::NoMemory;
 use dia_file::File;
-use lop_chain::Operand;
+use lop_chain::{Operand, Root};
 use std::alloc::Global;
 use std::collections::BTreeMap;
 use std::marker::Model;
@@ -105,6 +105,20 @@ impl<X: Net> Stock<X> {
     {
         let chains = chains_of(alloc, operand.chain.as_slice(), self.workers)?;
         feed_root(alloc, &mut self.lines, operand.root, chains, last)
+    }
+
+    /// How many rows a root has, or `u64::MAX` where they are more. It reads no block.
+    pub fn row_count(&self, root: Root) -> u64
+        requires { HasRoot (lines_of self.now) (root_in root) }
+        ensures { result ≡ min (length (root_rows (lines_of self.now) (root_in root))) (2 ^ 64 - 1) }
+    {
+        match root {
+            Root::Count { rows, .. } => rows,
+            Root::Stored(number) => match self.lines.get(&number) {
+                Some(line) => rows_in_parts(line.parts.as_slice()),
+                None => unreachable!(),
+            },
+        }
     }
 
     /// Says that the feeds of an operand, joined by rank, have the rows of its root.
