@@ -7,7 +7,7 @@ use Rattle.lop_chain.proofs.tests.a_sink_that_refuses_has_the_rows_before.Goals 
 pub keeps_the_first-requires : goal.keeps_the_first-requires
 keeps_the_first-requires g c =
     let kinds : kinds_of (row_in_ref c.row-in-loop-most.result) ≡ Text ∷ Int ∷ [] = ap kinds_of c.row-in-loop-most.ensures ∙ c.in_ok-row.ensures in
-    (Text ∷ Int ∷ [], rw (kinds, c.in_ok-chain.ensures, c.in_ok-copies.ensures, c.as_slice.ensures.value) c.in_ok-ops.ensures)
+    (Text ∷ Int ∷ [], rw (kinds, c.in_ok-chain.ensures, c.in_ok-copy_ops.ensures, c.as_slice.ensures.value) c.in_ok-ops.ensures)
 
 pub keeps_the_first-requires-in-loop-most : goal.keeps_the_first-requires-in-loop-most
 keeps_the_first-requires-in-loop-most g c =
