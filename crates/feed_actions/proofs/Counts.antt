@@ -1,5 +1,5 @@
 -- What counters come to.
-use Rattle.std.proofs.Common.{◌≡◌, ℕ, suc, ◌+◌, ◌*◌, ◌<◌, ◌≤◌, ◌^◌, true, false, List, [], ◌∷◌, map, length, Some, Result, Ok, Err, IfOk, OnOk, OnErr, IfErr, inl, inr, refl, sym, ap, subst, ◌∙◌, arith}
+use Rattle.std.proofs.Common.{◌≡◌, ℕ, ◌+◌, ◌<◌, false, List, [], ◌∷◌, map, length, Some, inl, inr, refl, sym, ap, subst, ◌∙◌, arith}
 use Rattle.std.specs.Prelude.{All, ◌⊎◌, slice_get}
 use Rattle.std.specs.List.{AllZip, flat_map, sum_by}
 use Rattle.std.proofs.lemmas.List.Elements.{All-head, All-tail}
@@ -15,12 +15,11 @@ use Rattle.scatter.specs.declared.feed_err.FeedErr.{FeedErr}
 use Rattle.scatter.specs.declared.feed_err.FeedErr.TheVariants.{Sink, Disk, Damaged, NoMemory}
 use Rattle.scatter.specs.Feeds.{FeedValue}
 use Rattle.scatter.specs.Lines.{Lines, root_rows, root_feeds}
-use Rattle.scatter.specs.Phases.{Turn, AreTurns, CanTake, HasSent, HasStopped}
-use Rattle.feed_actions.specs.declared.counter.Counter.{Counter}
+use Rattle.scatter.specs.Phases.{Turn, CanTake, HasSent, HasStopped}
 use Rattle.feed_actions.specs.declared.counter.TooManyRows.{TooManyRows}
-use Rattle.feed_actions.specs.Told.{Tells, AreTold, SomeHit, HasPermit}
+use Rattle.feed_actions.specs.Told.{Tells, AreTold, HasPermit}
 use Rattle.feed_actions.specs.Counting.{arriving, CountRefused}
-use Rattle.feed_actions.proofs.TurnCounts.{feed_in, hand_in, sink_before, sink_after, IsToldTurn, all_back, told_turns, arrived, arrived_is, permits_same, count_all, too_many, at_rank, map_at, hit_at}
+use Rattle.feed_actions.proofs.TurnCounts.{hand_in, sink_before, IsToldTurn, all_back, told_turns, arrived_is, count_all, too_many, at_rank, map_at, hit_at}
 
 pub follow_refl : (hands : List HandValue) → AllZip Follows hands hands
 follow_refl [] = tt

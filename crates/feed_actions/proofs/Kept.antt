@@ -1,5 +1,5 @@
 -- Lines that make one row of each.
-use Rattle.std.proofs.Common.{◌≡◌, ◌+◌, true, List, [], ◌∷◌, ◌++◌, map, length, refl, ap, ◌∙◌, arith, length-append, append-nil}
+use Rattle.std.proofs.Common.{◌≡◌, true, List, [], ◌∷◌, map, length, refl, ap, ◌∙◌, arith, length-append, append-nil}
 use Rattle.std.specs.List.{list_all}
 use Rattle.row_defs.specs.Rows.{Row}
 use Rattle.row_defs.specs.Values.{value_of}

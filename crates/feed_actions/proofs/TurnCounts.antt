@@ -1,6 +1,6 @@
 -- What sinks that count come to, over the turns of all workers.
-use Rattle.std.proofs.Common.{◌≡◌, ℕ, zero, suc, ◌+◌, ◌*◌, ◌<◌, ◌≤◌, true, List, [], ◌∷◌, ◌++◌, map, length, Some, refl, sym, ap, subst, ◌∙◌, arith, length-append, append-nil}
-use Rattle.std.specs.Prelude.{All, slice_get, ◌⊎◌}
+use Rattle.std.proofs.Common.{◌≡◌, ℕ, zero, suc, ◌+◌, ◌<◌, ◌≤◌, true, List, [], ◌∷◌, ◌++◌, map, length, Some, refl, sym, ap, subst, ◌∙◌, arith, length-append, append-nil}
+use Rattle.std.specs.Prelude.{All, slice_get}
 use Rattle.std.specs.List.{AllZip, flat_map, sum_by}
 use Rattle.std.proofs.lemmas.List.Elements.{All-nil, All-cons, All-head, All-tail}
 use Rattle.std.proofs.lemmas.List.Sums.{sum_by-cons}
@@ -14,16 +14,13 @@ use Rattle.dia_file.specs.Files.{FileValue}
 use Rattle.lop_chain.specs.Ops.{rows_from}
 use Rattle.lop_chain.specs.declared.sink.RowSink.{Ghosts}
 use Rattle.collective.specs.Shares.{shares_of}
-use Rattle.scatter.specs.declared.feed_err.FeedErr.{FeedErr}
-use Rattle.scatter.specs.declared.feed_err.FeedErr.TheVariants.{Sink, Disk, Damaged, NoMemory}
 use Rattle.scatter.specs.Feeds.{FeedValue, part_feed, number_feed, number_rows}
 use Rattle.scatter.specs.Lines.{Lines, root_rows, root_feeds, files_of}
 use Rattle.scatter.specs.Steps.{IsTold}
-use Rattle.scatter.specs.Sends.{IsSent, IsCutOff, Unsent}
-use Rattle.scatter.specs.Phases.{Turn, AreTurns, TookWhole, IsServed, HasSent, HasStopped}
-use Rattle.feed_actions.specs.declared.counter.TooManyRows.{TooManyRows}
-use Rattle.feed_actions.specs.Told.{Tells, AreTold, SomeHit}
-use Rattle.feed_actions.specs.Counting.{arriving, CountRefused}
+use Rattle.scatter.specs.Sends.{IsCutOff}
+use Rattle.scatter.specs.Phases.{Turn, TookWhole, IsServed}
+use Rattle.feed_actions.specs.Told.{Tells, AreTold}
+use Rattle.feed_actions.specs.Counting.{arriving}
 
 abbrev left : FeedValue → List Row
 left f = f.left

@@ -1,5 +1,5 @@
 -- Where the rows of a root are known, and what a fault of the disk says.
-use Rattle.std.specs.Prelude.{◌≡◌, ◌<◌, ℕ, true, List, All, Some, ⊤, slice_get, length}
+use Rattle.std.specs.Prelude.{◌≡◌, ◌<◌, ℕ, true, List, All, Some, ⊤, slice_get}
 use Rattle.row_defs.specs.Operands.{Root, stored_root, count_root}
 use Rattle.block_pool.specs.Handles.{HandValue, HasHit, Follows}
 
