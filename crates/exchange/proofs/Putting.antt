@@ -4,14 +4,17 @@ use Rattle.std.specs.List.{AllByRecursion}
 use Rattle.std.proofs.lemmas.List.{get_or-set_same, get_or-set_other, length-set}
 use Rattle.block_pool.specs.Handles.{PoolName, BlockValue, FrameValue}
 use Rattle.dia_file.specs.Frames.{frame_bytes}
+use Rattle.block_pool.specs.declared.pool.TheConstants.{LEAST_BLOCK}
+use Rattle.dia_item.specs.Sizes.{longest_row}
+use Rattle.exchange.specs.Limits.{most_packets}
 use Rattle.exchange.specs.Dealing.{sent_to, joined, block_of, with_frame, IsOpenIn, IsSentFrom, SentMore, IsDealt}
 
 -- what was put and what is left are the bytes; at most one block more was sent than the bytes fill, and none more while some are left
 pub record PutSoFar (pool : PoolName) (sent : List (List BlockValue)) (to : ℕ) (f : Option FrameValue) (bytes : List ℕ) (now : List (List BlockValue)) (g : Option FrameValue) (rest : List ℕ) : Type 0 where
   pub parts : (joined (sent_to now to) ++ frame_bytes g) ++ rest ≡ (joined (sent_to sent to) ++ frame_bytes f) ++ bytes
   pub more : SentMore pool (sent_to sent to) (sent_to now to)
-  pub filled : 0 < length rest → length (sent_to now to) * 4096 + length rest ≤ length (sent_to sent to) * 4096 + length bytes
-  pub few : length (sent_to now to) ≤ length (sent_to sent to) + 97
+  pub filled : 0 < length rest → length (sent_to now to) * LEAST_BLOCK + length rest ≤ length (sent_to sent to) * LEAST_BLOCK + length bytes
+  pub few : length (sent_to now to) ≤ length (sent_to sent to) + most_packets
   pub others : (w : ℕ) → w ≢ to → sent_to now w ≡ sent_to sent w
   pub lanes : length now ≡ length sent
 
@@ -68,8 +71,8 @@ put_sent pool sent to f bytes now (Some g) rest within is s =
 pub put_more :
     (pool : PoolName) (sent : List (List BlockValue)) (to : ℕ) (f : Option FrameValue) (bytes : List ℕ) (now : List (List BlockValue)) (g : Option FrameValue) (rest : List ℕ)
     (h : Option FrameValue) (left : List ℕ)
-    → to < length sent → length bytes ≤ 393240 → 0 < length rest → IsOpenIn pool g → PutSoFar pool sent to f bytes now g rest
-    → frame_bytes h ++ left ≡ rest → (0 < length left → length left + 4096 ≤ length rest) → PutSoFar pool sent to f bytes (with_frame now to g) h left
+    → to < length sent → length bytes ≤ longest_row → 0 < length rest → IsOpenIn pool g → PutSoFar pool sent to f bytes now g rest
+    → frame_bytes h ++ left ≡ rest → (0 < length left → length left + LEAST_BLOCK ≤ length rest) → PutSoFar pool sent to f bytes (with_frame now to g) h left
 put_more pool sent to f bytes now g rest h left within short some is s split full =
     let t = put_sent pool sent to f bytes now g rest within is s in
     let filled = s.filled some in

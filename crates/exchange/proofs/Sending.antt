@@ -8,6 +8,8 @@ use Rattle.block_pool.specs.Follows.{follows_refl, follows_trans}
 use Rattle.dia_file.specs.Frames.{frames}
 use Rattle.exchange.specs.Dealing.{sent_to, joined, block_of, with_frame, open_frames, IsOpenIn, AreOpenIn, SentMore, IsFinished}
 use Rattle.exchange.specs.Serving.{Serves}
+use Rattle.block_pool.specs.declared.pool.TheConstants.{LEAST_BLOCK}
+use Rattle.exchange.specs.Limits.{most_begun}
 use Rattle.exchange.proofs.Counting.{open_cons}
 use Rattle.exchange.proofs.Putting.{frame_sent, joined-append}
 use Rattle.exchange.proofs.Taking.{good-both}
@@ -165,7 +167,7 @@ none_counted (suc n) = omega (arith, open_cons None (replicate n None), none_cou
 
 pub serves_first :
     (d : HandValue) (fs : List (Option FrameValue)) (sent : List (List BlockValue)) (workers : ℕ) → fs ≡ replicate workers None → length sent ≡ workers
-    → ((w : ℕ) → length (sent_to sent w) < 2 ^ 55) → workers < 2 ^ 32 → workers ≤ d.permits → 4096 ≤ d.pool.opening.block → Serves d fs sent sent workers 0
+    → ((w : ℕ) → length (sent_to sent w) < most_begun) → workers < 2 ^ 32 → workers ≤ d.permits → LEAST_BLOCK ≤ d.pool.opening.block → Serves d fs sent sent workers 0
 serves_first d fs sent workers none lanes few small permits block =
     let P : List (Option FrameValue) → Type 0 = λ gs. AreOpenIn d.pool gs in
     record {

@@ -8,6 +8,7 @@ use Rattle.dia_file.specs.Encoding.{spelled}
 use Rattle.dia_file.specs.Frames.{frame_bytes}
 use Rattle.exchange.specs.Dealing.{sent_to, joined, bytes_to, open_frames, AreOpenIn, IsSentFrom, SentMore, IsDealt}
 use Rattle.exchange.specs.Deals.{Dealt}
+use Rattle.exchange.specs.Limits.{most_dealt, most_packets}
 use Rattle.row_defs.specs.declared.kind.Kind.{Kind}
 use Rattle.row_defs.specs.Rows.{kinds_of}
 use Rattle.dia_item.specs.declared.row_ref.RowRef.{RowRef}
@@ -33,7 +34,7 @@ good-both pool (x ∷ a) b p q = (p.0, good-both pool a b p.1 q)
 
 -- what was sent since the scatter was made, and more
 sent_more :
-    (d e : HandValue) (begun sent now : List BlockValue) (taken : ℕ) → e.pool ≡ d.pool → SentSince d begun sent taken → SentMore d.pool sent now → length now ≤ length sent + 97
+    (d e : HandValue) (begun sent now : List BlockValue) (taken : ℕ) → e.pool ≡ d.pool → SentSince d begun sent taken → SentMore d.pool sent now → length now ≤ length sent + most_packets
     → SentSince e begun now (taken + 1)
 sent_more d e begun sent now taken same s m few =
     let P : PoolName → Type 0 = λ pool. AllByRecursion (IsSentFrom pool) (s.more.more ++ m.more) in
@@ -59,7 +60,7 @@ sent_still d e begun sent now taken same s is =
 -- the hand serves the scatter still
 pub serves_still :
     (d e : HandValue) (fs gs : List (Option FrameValue)) (begun sent now : List (List BlockValue)) (workers many taken to : ℕ) (bytes : List ℕ)
-    → Serves d fs begun sent workers taken → taken ≢ 2 ^ 41 → IsDealt d.pool sent to (get_or fs to None) bytes now (get_or gs to None)
+    → Serves d fs begun sent workers taken → taken ≢ most_dealt → IsDealt d.pool sent to (get_or fs to None) bytes now (get_or gs to None)
     → length gs ≡ length fs → many ≡ workers → AreOpenIn d.pool gs → e.permits + open_frames gs ≡ d.permits + open_frames fs → Follows d e
     → Serves e gs begun now many (taken + 1)
 serves_still d e fs gs begun sent now workers many taken to bytes s less dealt len same own permits follows =
@@ -83,7 +84,7 @@ serves_still d e fs gs begun sent now workers many taken to bytes s less dealt l
     at w false is = sent_still d e (sent_to begun w) (sent_to sent w) (sent_to now w) taken follows.pool (s.since w) (dealt.others w (λ here. absurd (let t = eq-eqb w to here in cc (t, is))))
 
 -- few enough packets were sent for one row more
-pub room_for_one : (d : HandValue) (fs : List (Option FrameValue)) (begun sent : List (List BlockValue)) (workers taken to : ℕ) → Serves d fs begun sent workers taken → length (sent_to sent to) + 97 < 2 ^ 56
+pub room_for_one : (d : HandValue) (fs : List (Option FrameValue)) (begun sent : List (List BlockValue)) (workers taken to : ℕ) → Serves d fs begun sent workers taken → length (sent_to sent to) + most_packets < 2 ^ 56
 room_for_one d fs begun sent workers taken to s = let at = s.since to in omega (arith, at.begun_few, at.few, s.most)
 
 -- over the scatter as contracts see it ---------------------------------------------------------------------------------
@@ -91,9 +92,9 @@ room_for_one d fs begun sent workers taken to s = let at = s.since to in omega (
 -- the route answers a worker
 pub goes_to_one :
     {F P : Type 0} (pre : Asked F) (post : Answered F) (p : Ghosts P) (s v : ScatterValue F P) (kinds : List Kind) (r : RowRef) (w : ℕ)
-    → s ≡ v → Accepts pre post p s kinds → kinds_of (row_in_ref r) ≡ kinds → s.taken ≤ 2 ^ 41 → v.taken ≢ 2 ^ 41 → post v.route r v.taken w → w < p.workers v.post
+    → s ≡ v → Accepts pre post p s kinds → kinds_of (row_in_ref r) ≡ kinds → s.taken ≤ most_dealt → v.taken ≢ most_dealt → post v.route r v.taken w → w < p.workers v.post
 goes_to_one {F} {P} pre post p s v kinds r w same h is most less answered =
-    let Q : ScatterValue F P → Type 0 = λ x. Accepts pre post p x kinds × (x.taken ≤ 2 ^ 41) in
+    let Q : ScatterValue F P → Type 0 = λ x. Accepts pre post p x kinds × (x.taken ≤ most_dealt) in
     let here = subst Q same (h, most) in
     (here.0.1 r v.taken is (omega (arith, here.1, less))).1 w answered
 
@@ -109,15 +110,15 @@ took_one {F} {P} post p s v pool r to bytes now gs same answered is dealt others
 
 pub accepts_still :
     {F : Type 0} (pre : Asked F) (post : Answered F) (ks ls : List Kind) (f h : F) (m n : ℕ) (kinds : List Kind) → ls ≡ ks → h ≡ f → n ≡ m
-    → (ks ≡ kinds) × ((r : RowRef) (k : ℕ) → kinds_of (row_in_ref r) ≡ kinds → k < 2 ^ 41 → pre f r k × ((w : ℕ) → post f r k w → w < m))
-    → (ls ≡ kinds) × ((r : RowRef) (k : ℕ) → kinds_of (row_in_ref r) ≡ kinds → k < 2 ^ 41 → pre h r k × ((w : ℕ) → post h r k w → w < n))
+    → (ks ≡ kinds) × ((r : RowRef) (k : ℕ) → kinds_of (row_in_ref r) ≡ kinds → k < most_dealt → pre f r k × ((w : ℕ) → post f r k w → w < m))
+    → (ls ≡ kinds) × ((r : RowRef) (k : ℕ) → kinds_of (row_in_ref r) ≡ kinds → k < most_dealt → pre h r k × ((w : ℕ) → post h r k w → w < n))
 accepts_still {F} pre post ks ls f h m n kinds same route workers q =
-    let Q : F → Type 0 = λ x. (r : RowRef) (k : ℕ) → kinds_of (row_in_ref r) ≡ kinds → k < 2 ^ 41 → pre x r k × ((w : ℕ) → post x r k w → w < n) in
+    let Q : F → Type 0 = λ x. (r : RowRef) (k : ℕ) → kinds_of (row_in_ref r) ≡ kinds → k < most_dealt → pre x r k × ((w : ℕ) → post x r k w → w < n) in
     (same ∙ q.0, subst Q (sym route) (λ r k is below. let t = q.1 r k is below in (t.0, λ w answered. omega (arith, t.1 w answered, workers))))
 
 pub serves_one_more :
     {F P : Type 0} (p : Ghosts P) (s v : ScatterValue F P) (d e : HandValue) (to : ℕ) (bytes : List ℕ) (now : P) (gs : List (Option FrameValue))
-    → s ≡ v → IsServed p s d → v.taken ≢ 2 ^ 41 → IsDealt d.pool (p.sent v.post) to (get_or v.frames to None) bytes (p.sent now) (get_or gs to None)
+    → s ≡ v → IsServed p s d → v.taken ≢ most_dealt → IsDealt d.pool (p.sent v.post) to (get_or v.frames to None) bytes (p.sent now) (get_or gs to None)
     → length gs ≡ length v.frames → p.workers now ≡ p.workers v.post → AreOpenIn d.pool gs → e.permits + open_frames gs ≡ d.permits + open_frames v.frames → Follows d e
     → Serves e gs (p.sent v.began) (p.sent now) (p.workers now) (v.taken + 1)
 serves_one_more {F} {P} p s v d e to bytes now gs same h less dealt len workers own permits follows =

@@ -8,6 +8,7 @@ use Rattle.block_pool.specs.Handles.{PoolName, Notes, BlockValue, FrameValue, Ha
 use Rattle.multiplexer.specs.Sending.{with_sent}
 use Rattle.multiplexer.specs.declared.post.Post.{Ghosts}
 use Rattle.dia_file.specs.Frames.{frame_bytes, frames}
+use Rattle.exchange.specs.Limits.{most_packets}
 use Rattle.exchange.specs.declared.scatter_err.ScatterErr.{ScatterErr}
 use Rattle.exchange.specs.declared.scatter_err.ScatterErr.TheVariants.{Disk, NoMemory, TooManyRows}
 
@@ -56,7 +57,7 @@ pub record SentMore (pool : PoolName) (before : List BlockValue) (now : List Blo
 pub record IsDealt (pool : PoolName) (sent : List (List BlockValue)) (to : ℕ) (f : Option FrameValue) (bytes : List ℕ) (now : List (List BlockValue)) (g : Option FrameValue) : Type 0 where
   pub parts : joined (sent_to now to) ++ frame_bytes g ≡ (joined (sent_to sent to) ++ frame_bytes f) ++ bytes
   pub more : SentMore pool (sent_to sent to) (sent_to now to)
-  pub few : length (sent_to now to) ≤ length (sent_to sent to) + 97
+  pub few : length (sent_to now to) ≤ length (sent_to sent to) + most_packets
   pub others : (w : ℕ) → w ≢ to → sent_to now w ≡ sent_to sent w
   pub lanes : length now ≡ length sent
 

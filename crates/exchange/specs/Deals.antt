@@ -2,7 +2,8 @@
 use Rattle.std.specs.Prelude.{◌≡◌, ℕ, ◌+◌, ◌==◌, if◌then◌else◌, List, [], ◌∷◌, ◌++◌, length, refl, true, false}
 use Rattle.std.proofs.Common.{sym, ap, subst, ◌∙◌, append_assoc, append-nil, length-append, arith}
 use Rattle.row_defs.specs.Rows.{Row}
-use Rattle.dia_file.specs.Encoding.{spelled, encoded}
+use Rattle.dia_file.specs.Encoding.{encoded}
+use Rattle.dia_file.proofs.RowBytes.{encoded-append}
 
 -- the route may answer these workers for these rows, of which the first stands at place n
 abbrev pub AreRouted : (Row → ℕ → ℕ → Type 0) → ℕ → List Row → List ℕ → Type 0
@@ -53,10 +54,6 @@ rows_to-append answers n w (x ∷ xs) ys to more p =
     ∙ ap (λ (rs : List Row). if p.0 == w then x ∷ rs else rs) all
     ∙ if_append (p.0 == w) x (rows_to w xs p.1) (rows_to w ys more)
     ∙ ap (λ (ts : List ℕ). rows_to w (x ∷ xs) ts ++ rows_to w ys more) (sym p.4)
-
-encoded-append : (xs ys : List Row) → encoded (xs ++ ys) ≡ encoded xs ++ encoded ys
-encoded-append [] ys = refl
-encoded-append (x ∷ xs) ys = ap (λ (zs : List ℕ). spelled x ++ zs) (encoded-append xs ys) ∙ sym (append_assoc (spelled x) (encoded xs) (encoded ys))
 
 pub Dealt-more :
     (answers : Row → ℕ → ℕ → Type 0) (n m k : ℕ) (a b c : ℕ → List ℕ) (xs ys : List Row)

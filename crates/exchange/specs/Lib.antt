@@ -1,3 +1,4 @@
+pub mod Limits
 pub mod Dealing
 pub mod Deals
 pub mod Serving

@@ -7,6 +7,8 @@ use Rattle.block_pool.specs.Handles.{BlockValue, FrameValue, HandValue, HasHit, 
 use Rattle.dia_item.specs.declared.row_ref.RowRef.{RowRef}
 use Rattle.dia_item.specs.Lent.{row_in_ref}
 use Rattle.multiplexer.specs.declared.post.Post.{Ghosts}
+use Rattle.block_pool.specs.declared.pool.TheConstants.{LEAST_BLOCK}
+use Rattle.exchange.specs.Limits.{most_dealt, most_packets, most_begun}
 use Rattle.exchange.specs.Dealing.{sent_to, bytes_to, open_frames, AreOpenIn, SentMore, SamePost, same_post, same_post_too}
 use Rattle.exchange.specs.Deals.{Dealt, Dealt-none, Dealt-more}
 use Rattle.exchange.specs.declared.scatter_err.ScatterErr.{ScatterErr}
@@ -26,19 +28,19 @@ pub record ScatterValue (F P : Type 0) : Type 0 where
 -- the blocks sent to a worker since the scatter was made: few for so many rows, none empty, and all of the hand's pool
 pub record SentSince (d : HandValue) (begun sent : List BlockValue) (taken : ℕ) : Type 0 where
   pub more : SentMore d.pool begun sent
-  pub begun_few : length begun < 2 ^ 55
-  pub few : length sent ≤ length begun + 97 * taken
+  pub begun_few : length begun < most_begun
+  pub few : length sent ≤ length begun + most_packets * taken
 
 -- The hand is of the pool of the frames and of the blocks that were sent, and its permits and the frames that are written
 -- are at least as many as the workers.
 pub record Serves (d : HandValue) (fs : List (Option FrameValue)) (begun sent : List (List BlockValue)) (workers taken : ℕ) : Type 0 where
   pub own : AreOpenIn d.pool fs
-  pub block : 4096 ≤ d.pool.opening.block
+  pub block : LEAST_BLOCK ≤ d.pool.opening.block
   pub room : workers ≤ d.permits + open_frames fs
   pub len : length fs ≡ workers
   pub lanes : length sent ≡ workers
   pub since : (w : ℕ) → SentSince d (sent_to begun w) (sent_to sent w) taken
-  pub most : taken ≤ 2 ^ 41
+  pub most : taken ≤ most_dealt
   pub few_workers : workers < 2 ^ 32
 
 -- A route is a function of a row and of how many rows were taken before: what it may be asked, and what it answers.
@@ -55,7 +57,7 @@ answers_of post route row n w = (r : RowRef) × (row_in_ref r ≡ row) × post r
 -- its rows are of these kinds, and the route may be asked for each such row, and answers a worker
 abbrev pub Accepts : {F P : Type 0} → Asked F → Answered F → Ghosts P → ScatterValue F P → List Kind → Type 0
 Accepts pre post p s kinds =
-    (s.kinds ≡ kinds) × ((r : RowRef) (n : ℕ) → kinds_of (row_in_ref r) ≡ kinds → n < 2 ^ 41 → pre s.route r n × ((w : ℕ) → post s.route r n w → w < p.workers s.post))
+    (s.kinds ≡ kinds) × ((r : RowRef) (n : ℕ) → kinds_of (row_in_ref r) ≡ kinds → n < most_dealt → pre s.route r n × ((w : ℕ) → post s.route r n w → w < p.workers s.post))
 
 -- these rows came on their way to the workers that the route answered, and no others
 abbrev pub Took : {F P : Type 0} → Answered F → Ghosts P → ScatterValue F P → List Row → ScatterValue F P → Type 0
@@ -72,7 +74,7 @@ Stays p s t = (t.route ≡ s.route) × (t.began ≡ s.began) × SamePost p s.pos
 abbrev pub RefusesRow : ScatterErr → ℕ → HandValue → HandValue → Type 0
 RefusesRow (Disk count) taken a b = HasHit a.notes b.notes count
 RefusesRow NoMemory taken a b = ⊤
-RefusesRow TooManyRows taken a b = taken ≡ 2 ^ 41
+RefusesRow TooManyRows taken a b = taken ≡ most_dealt
 
 -- laws ----------------------------------------------------------------------------------------------------------------
 

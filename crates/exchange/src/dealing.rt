@@ -3,6 +3,7 @@ ghost use Rattle.std.specs.Prelude.{◌≡◌, ◌+◌, ◌*◌, ◌^◌, ◌<�
 ghost use Rattle.dia_item.specs.Sizes.{longest_row};
 ghost use Rattle.block_pool.specs.Handles.{Follows, RefusesFrame};
 ghost use Rattle.dia_file.specs.Frames.{frame_bytes, frames};
+ghost use Rattle.exchange.specs.Limits.{most_packets};
 ghost use Rattle.exchange.specs.Dealing.{sent_to, with_frame, IsOpenIn, IsDealt, RefusesDeal, SamePost};
 
 use crate::scatter_err::ScatterErr;
@@ -89,7 +90,7 @@ fn put_anew<R: Wait, D: Disk, P: Post>(
     requires own { IsOpenIn hand.old.pool frame.old }
     requires to { to < P.workers post.old }
     requires lanes { length (P.sent post.old) ≡ P.workers post.old }
-    requires room { length (sent_to (P.sent post.old) to) + 97 < 2 ^ 56 }
+    requires room { length (sent_to (P.sent post.old) to) + most_packets < 2 ^ 56 }
     requires permit { 0 < hand.old.permits + frames frame.old }
     requires some { 0 < length bytes.now }
     requires longest { length bytes.now ≤ longest_row }
@@ -125,7 +126,7 @@ pub(crate) fn put_row<R: Wait, D: Disk, P: Post>(
     requires own { IsOpenIn hand.old.pool frame.old }
     requires to { to < P.workers post.old }
     requires lanes { length (P.sent post.old) ≡ P.workers post.old }
-    requires room { length (sent_to (P.sent post.old) to) + 97 < 2 ^ 56 }
+    requires room { length (sent_to (P.sent post.old) to) + most_packets < 2 ^ 56 }
     requires permit { 0 < hand.old.permits + frames frame.old }
     requires some { 0 < length bytes.now }
     requires longest { length bytes.now ≤ longest_row }

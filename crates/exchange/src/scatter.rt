@@ -10,6 +10,7 @@ ghost use Rattle.dia_item.specs.Sizes.{longest_row};
 ghost use Rattle.block_pool.specs.Handles.{HandValue, Follows};
 ghost use Rattle.block_pool.specs.Follows.{follows_refl, follows_trans};
 ghost use Rattle.dia_file.specs.Frames.{frame_bytes, frames};
+ghost use Rattle.exchange.specs.Limits.{most_packets, most_begun};
 ghost use Rattle.exchange.specs.Dealing.{sent_to, with_frame, open_frames, AreOpenIn, IsOpenIn, IsDealt, bytes_to, joined, RefusesDeal, SamePost, SentMore, IsFinished};
 ghost use Rattle.exchange.specs.Serving.{Took, Accepts, IsServed, Stays, RefusesRow, took_none, took_more, stays_same, stays_too, refuses_from};
 
@@ -71,7 +72,7 @@ fn deal<R: Wait, D: Disk, P: Post>(
     requires within { to < vec_len frames.old }
     requires to { to < P.workers post.old }
     requires lanes { length (P.sent post.old) ≡ P.workers post.old }
-    requires sent { length (sent_to (P.sent post.old) to) + 97 < 2 ^ 56 }
+    requires sent { length (sent_to (P.sent post.old) to) + most_packets < 2 ^ 56 }
     requires permit { vec_len frames.old ≤ hand.old.permits + open_frames frames.old.items }
     requires some { 0 < length bytes.now }
     requires longest { length bytes.now ≤ longest_row }
@@ -224,7 +225,7 @@ impl<'p, D: Disk, F: Fn(RowRef<'_>, u64) -> u32 + Drop, P: Post + Drop> Scatter<
     ) -> Result<Scatter<'p, D, F, P>, NoMemory>
         requires workers { P.workers post ≡ workers }
         requires lanes { length (P.sent post) ≡ workers }
-        requires few { (w : ℕ) → length (sent_to (P.sent post) w) < 2 ^ 55 }
+        requires few { (w : ℕ) → length (sent_to (P.sent post) w) < most_begun }
         ensures kinds { IfOk result (λ s. s.kinds ≡ kind_list kinds) }
         ensures route { IfOk result (λ s. s.route ≡ route) }
         ensures post { IfOk result (λ s. (s.post ≡ post) × (s.began ≡ post)) }

@@ -4,6 +4,7 @@ ghost use Rattle.row_defs.specs.declared.kind.Kind.TheVariants.{Int};
 ghost use Rattle.row_defs.specs.Rows.{kinds_of};
 ghost use Rattle.dia_item.specs.Lent.{row_in_ref};
 ghost use Rattle.exchange.specs.Dealing.{sent_to};
+ghost use Rattle.exchange.specs.Limits.{most_begun};
 ghost use Rattle.block_pool.specs.Workers.{IsReady, new_pool};
 
 use crate::Scatter;
@@ -50,7 +51,7 @@ fn deal_one<R: Wait, P: Post + Drop>(
     post: P,
     row: RowRef<'_>,
 ) -> Option<P>
-    requires post { (P.workers post ≡ 1) × (length (P.sent post) ≡ 1) × ((w : ℕ) → length (sent_to (P.sent post) w) < 2 ^ 55) }
+    requires post { (P.workers post ≡ 1) × (length (P.sent post) ≡ 1) × ((w : ℕ) → length (sent_to (P.sent post) w) < most_begun) }
     requires kinds { kinds_of (row_in_ref row) ≡ Int ∷ [] }
     requires permit { 0 < hand.old.permits }
     requires block { LEAST_BLOCK ≤ hand.old.pool.opening.block }

@@ -1,8 +1,10 @@
 use Rattle.std.proofs.Common.{◌<◌, length, refl, sym, ap, ◌∙◌, arith}
+use Rattle.std.proofs.lemmas.List.{length-map}
+use Rattle.row_defs.specs.Rows.{kind_of, kinds_of}
 use Rattle.dia_item.specs.Lent.{row_in_ref}
 use Rattle.dia_file.proofs.RowBytes.{spelled_is}
 use Rattle.exchange.specs.contracts.scatter.ScatterRowSink.F-Fn.{words}
-use Rattle.exchange.proofs.OneRow.{row_some}
+use Rattle.dia_file.proofs.WriterLemmas.{row_some}
 use Rattle.exchange.proofs.Taking.{goes_to_one, took_one, accepts_still, serves_one_more}
 use Rattle.exchange.proofs.scatter.ScatterRowSink.take.Goals as goal
 
@@ -21,7 +23,7 @@ deal-requires-clause-within g c =
 
 pub deal-requires-clause-some : goal.deal-requires-clause-some
 deal-requires-clause-some g c =
-    let some : 0 < length (row_in_ref c.args.row) = omega (arith, c.columns-columns.ensures.len, c.columns-columns.ensures.some) in
+    let some : 0 < length (kinds_of (row_in_ref c.args.row)) = omega (arith, length-map (row_in_ref c.args.row) kind_of, c.columns-columns.ensures.len, c.columns-columns.ensures.some) in
     row_some _ _ _ some c.bytes-bytes.ensures.row
 
 pub returns-in-Ok-clause-took : goal.returns-in-Ok-clause-took
