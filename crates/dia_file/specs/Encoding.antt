@@ -2,7 +2,7 @@
 use Rattle.std.specs.Prelude.{◌≡◌, ℕ, zero, suc, List, [], ◌∷◌, ◌++◌, length, drop}
 use Rattle.std.specs.List.{flat_map, AllByRecursion}
 use Rattle.row_defs.specs.declared.kind.Kind.{Kind}
-use Rattle.row_defs.specs.Rows.{Cell, int, text, Row, IsRow, bytes_of_u64, bytes_of_u32}
+use Rattle.row_defs.specs.Rows.{Cell, int, text, Row, Fits, IsRow, bytes_of_u64, bytes_of_u32}
 use Rattle.dia_item.specs.Reading.{row_of}
 
 -- the one spelling of a cell, of a row, and of rows one after the other
@@ -19,6 +19,10 @@ encoded rows = flat_map spelled rows
 -- rows of these kinds, whose cells are in their limits
 abbrev pub AreOf : List Kind → List Row → Type 0
 AreOf kinds rows = AllByRecursion (λ row. IsRow kinds (spelled row) row) rows
+
+-- rows whose numbers and texts are no larger than a row's may be
+abbrev pub AllFit : List Row → Type 0
+AllFit rows = AllByRecursion (AllByRecursion Fits) rows
 
 -- the first n rows that the bytes hold
 unfoldable pub rows_of : List Kind → ℕ → List ℕ → List Row

@@ -2,7 +2,7 @@
 ghost use Rattle.std.specs.Prelude.{◌≡◌, length};
 ghost use Rattle.dia_item.specs.KindList.{kind_list};
 ghost use Rattle.block_pool.specs.Handles.{Follows};
-ghost use Rattle.dia_file.specs.Encoding.{encoded};
+ghost use Rattle.dia_file.specs.Encoding.{encoded, AllFit};
 ghost use Rattle.dia_file.specs.Tallies.{Frees};
 
 use crate::consume::ConsumeReader;
@@ -41,9 +41,10 @@ impl Model for File {
 impl File {
     ghost use Rattle.dia_file.specs.Files.{IsFileOf, joined_blocks, AreFilled};
 
-    /// How many rows there are. It takes constant time, as do `bytes`, `blocks` and `kinds`.
+    /// How many rows there are, each of which fits. It takes constant time, as do `bytes`, `blocks` and `kinds`.
     pub fn rows(&self) -> u64
-        ensures { result ≡ length self.now.rows }
+        ensures len { result ≡ length self.now.rows }
+        ensures fit { AllFit self.now.rows }
     {
         self.rows
     }
