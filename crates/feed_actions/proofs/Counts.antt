@@ -1,6 +1,6 @@
 -- What counters come to.
-use Rattle.std.proofs.Common.{◌≡◌, ℕ, ◌+◌, ◌<◌, false, List, [], ◌∷◌, map, length, Some, inl, inr, refl, sym, ap, subst, ◌∙◌, arith}
-use Rattle.std.specs.Prelude.{All, ◌⊎◌, slice_get}
+use Rattle.std.proofs.Common.{◌≡◌, ℕ, ◌+◌, ◌<◌, false, List, [], ◌∷◌, map, length, inl, inr, refl, sym, ap, subst, ◌∙◌, arith}
+use Rattle.std.specs.Prelude.{All, ◌⊎◌}
 use Rattle.std.specs.List.{AllZip, flat_map, sum_by}
 use Rattle.std.proofs.lemmas.List.Elements.{All-head, All-tail}
 use Rattle.row_defs.specs.Limits.{most_rows}
@@ -17,9 +17,10 @@ use Rattle.scatter.specs.Feeds.{FeedValue}
 use Rattle.scatter.specs.Lines.{Lines, root_rows, root_feeds}
 use Rattle.scatter.specs.Phases.{Turn, CanTake, HasSent, HasStopped}
 use Rattle.feed_actions.specs.declared.counter.TooManyRows.{TooManyRows}
-use Rattle.feed_actions.specs.Told.{Tells, AreTold, HasPermit}
-use Rattle.feed_actions.specs.Counting.{arriving, CountRefused}
-use Rattle.feed_actions.proofs.TurnCounts.{hand_in, sink_before, IsToldTurn, all_back, told_turns, arrived_is, count_all, too_many, at_rank, map_at, hit_at}
+use Rattle.scatter.specs.Told.{Tells, AreTold, HasPermit, arriving}
+use Rattle.scatter.proofs.Arriving.{hand_in, sink_before, IsToldTurn, all_back, told_turns, arrived_is, at_rank, some_hit}
+use Rattle.feed_actions.specs.Counting.{CountRefused}
+use Rattle.feed_actions.proofs.TurnCounts.{count_all, too_many}
 
 pub follow_refl : (hands : List HandValue) → AllZip Follows hands hands
 follow_refl [] = tt
@@ -68,18 +69,7 @@ module _ {S : Type 0} (g : Ghosts S HandValue TooManyRows) (counted : S → ℕ)
       let many = too_many g counted counts stop.turns stop.rank stop.turn e stop.at stop.unsent full
       (at_rank IsToldTurn stop.turns stop.rank stop.turn stop.at all_told) (at_rank (λ (t : Turn S). counted t.sink ≡ 0) stop.turns stop.rank stop.turn stop.at fresh) in
       subst (λ rows. most_rows < length rows) (arrived_is lines workers root last ops stop.turns are.feeds_are joined) many
-  stopped_by (Disk count) stop =
-      let hit = hit_at stop.turns now stop.rank stop.turn stop.at stop.later in
-      record {
-        rank = stop.rank;
-        before = stop.turn.hand;
-        met = stop.turn.met;
-        after = hit.0;
-        was = subst (λ hs. slice_get hs stop.rank ≡ Some stop.turn.hand) stop.are.hands_are (map_at hand_in stop.turns stop.rank stop.turn stop.at);
-        is = hit.1;
-        hit = stop.unsent.1;
-        later = hit.2;
-      }
+  stopped_by (Disk count) stop = some_hit stop.turns hands now stop.rank stop.turn count stop.at stop.are.hands_are stop.later stop.unsent.1
   stopped_by Damaged stop = λ tells.
       stop.unsent.1 (at_rank (λ (t : Turn S). Tells t.hand) stop.turns stop.rank stop.turn stop.at
       (all_back hand_in Tells stop.turns (subst (λ hs. All Tells hs) (sym stop.are.hands_are) tells)))

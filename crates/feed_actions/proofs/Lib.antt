@@ -2,4 +2,4 @@ pub mod TurnCounts
 pub mod Counts
 pub mod TurnSums
 pub mod Worked
-pub mod Kept
+pub mod Fitting

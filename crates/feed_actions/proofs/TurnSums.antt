@@ -15,9 +15,8 @@ use Rattle.scatter.specs.Feeds.{FeedValue}
 use Rattle.scatter.specs.Lines.{Lines, root_rows, root_feeds}
 use Rattle.scatter.specs.Phases.{Turn, TookWhole, IsServed, HasSent}
 use Rattle.feed_actions.specs.Sinks.{number_at, added, summed}
-use Rattle.feed_actions.specs.Told.{AreTold}
-use Rattle.feed_actions.specs.Counting.{arriving}
-use Rattle.feed_actions.proofs.TurnCounts.{sink_before, sink_after, IsToldTurn, all_back, told_turns, arrived, arrived_is, whole_rows}
+use Rattle.scatter.specs.Told.{AreTold, arriving}
+use Rattle.scatter.proofs.Arriving.{sink_before, sink_after, IsToldTurn, all_back, told_turns, arrived, arrived_is, whole_rows}
 
 add_more : (a b x y : ℕ) → a % 2 ^ 64 ≡ x % 2 ^ 64 → b % 2 ^ 64 ≡ y % 2 ^ 64 → (a + b) % 2 ^ 64 ≡ (x + y) % 2 ^ 64
 add_more a b x y p q = omega (arith, p, q)

@@ -12,11 +12,10 @@ use Rattle.block_pool.specs.Handles.{HandValue}
 use Rattle.scatter.specs.Lines.{Lines}
 use Rattle.scatter.specs.declared.feed_err.FeedErr.{FeedErr}
 use Rattle.scatter.specs.declared.feed_err.FeedErr.TheVariants as feeds
+use Rattle.scatter.specs.Told.{Tells, AreTold, SomeHit, arriving}
 use Rattle.feed_actions.specs.declared.counter.TooManyRows as counts
 use Rattle.feed_actions.specs.declared.action.ActErr.{ActErr}
 use Rattle.feed_actions.specs.declared.action.ActErr.TheVariants.{Disk, Damaged, NoMemory, TooManyRows, Write}
-use Rattle.feed_actions.specs.Told.{Tells, AreTold, SomeHit}
-use Rattle.feed_actions.specs.Counting.{arriving}
 
 -- what a phase's fault is for an action
 abbrev pub act_refusal : FeedErr counts.TooManyRows → ActErr

@@ -1,5 +1,5 @@
 //! The actions that write one number.
-ghost use Rattle.std.specs.Prelude.{◌≡◌, ◌≤◌, ◌⊎◌, Some, slice_get, OnOk, IfErr, OnErr, All, length, vec_len};
+ghost use Rattle.std.specs.Prelude.{◌≡◌, ℕ, false, Err, ◌≤◌, ◌⊎◌, Some, slice_get, OnOk, IfErr, OnErr, All, length, vec_len};
 ghost use Rattle.std.specs.List.{AllZip};
 ghost use Rattle.row_defs.specs.declared.kind.Kind.TheVariants.{Int};
 ghost use Rattle.row_defs.specs.Limits.{most_rows};
@@ -13,8 +13,8 @@ ghost use Rattle.lop_chain.specs.Operands.{root_in};
 ghost use Rattle.scatter.specs.Lines.{HasRoot, root_kinds};
 ghost use Rattle.scatter.specs.Stocks.{lines_of, AreInPools};
 ghost use Rattle.scatter.specs.Phases.{pools_of, IsUsed};
-ghost use Rattle.feed_actions.specs.Told.{AreTold, HasPermit};
-ghost use Rattle.feed_actions.specs.Counting.{arriving};
+ghost use Rattle.scatter.specs.Told.{AreTold, HasPermit, arriving};
+ghost use Rattle.feed_actions.specs.Counting.{known_extent, IsTooLong};
 ghost use Rattle.feed_actions.specs.Acting.{act_refusal, size_text, sum_text, Writes, ActRefused};
 
 use crate::adding::sum_all;
@@ -23,6 +23,7 @@ use crate::counting::rows_arriving;
 use block_pool::Hand;
 use dia_edge::{Disk, Failed, Gate, Sink};
 use lop_chain::Operand;
+use row_growth::Extent;
 use scatter::{FeedErr, Net, Stock};
 use std::alloc::Global;
 use std::sync::Wait;
@@ -52,7 +53,7 @@ pub enum ActErr {
 }
 
 /// What a phase's fault is for an action.
-fn refusal_of(fault: FeedErr<TooManyRows>) -> ActErr
+pub fn refusal_of(fault: FeedErr<TooManyRows>) -> ActErr
     ensures { result ≡ act_refusal fault }
 {
     match fault {
@@ -77,8 +78,8 @@ fn put_number<S: Sink>(n: u64, out: &mut S) -> Result<(), ActErr>
     }
 }
 
-/// Writes how many rows arrive. They are counted by all workers in one phase, but no block is read where the chain makes one
-/// row of each and the root is used again.
+/// Writes how many rows arrive. They are counted by all workers in one phase, but no block is read where the chain makes as many
+/// rows of each and the root is used again, nor where more rows are known to arrive than may.
 ///
 /// After a refusal nothing was written, but that after `Write` some prefix of the text was. On every answer each hand is there,
 /// and the lines are in stock as before with no part lent, but that where this is the last use the root's line is gone.
@@ -108,6 +109,10 @@ pub fn size<'p, R: Threads + Wait + Sync, G: Gate + Sync, D: Disk + Send + Sync,
         hands.old.items hands.new.items out.old out.new) }
     ensures lines { OnOk result (IsUsed (lines_of stock.old) (root_in operand.now.root) last (lines_of stock.new)) }
     ensures left { OnErr result (IsUsed (lines_of stock.old) (root_in operand.now.root) last (lines_of stock.new) ⊎ (stock.new ≡ stock.old)) }
+    ensures at_once { IsTooLong (lines_of stock.old) (root_in operand.now.root) (ops_in operand.now.chain.items)
+        → (result ≡ Err ActErr.TooManyRows) × (hands.new ≡ hands.old) × (stock.new ≡ stock.old) }
+    ensures unread { (n : ℕ) → last ≡ false → known_extent (lines_of stock.old) (root_in operand.now.root) (ops_in operand.now.chain.items) ≡ Extent.Exactly n
+        → (hands.new ≡ hands.old) × (stock.new ≡ stock.old) }
 
     // On every answer.
     ensures counts { S.faults out.old ≤ S.faults out.new }
@@ -121,8 +126,8 @@ pub fn size<'p, R: Threads + Wait + Sync, G: Gate + Sync, D: Disk + Send + Sync,
     }
 }
 
-/// Writes the sum of a column of the rows that arrive, modulo 2^64, added up by all workers in one phase. What else holds is as
-/// at `size`.
+/// Writes the sum of a column of the rows that arrive, modulo 2^64, added up by all workers in one phase, which isn't begun where
+/// more rows are known to arrive than may. What else holds is as at `size`.
 pub fn sum<'p, R: Threads + Wait + Sync, G: Gate + Sync, D: Disk + Send + Sync, X: Net, S: Sink>(
     rt: &R,
     alloc: Global,
@@ -150,6 +155,8 @@ pub fn sum<'p, R: Threads + Wait + Sync, G: Gate + Sync, D: Disk + Send + Sync, 
         hands.old.items hands.new.items out.old out.new) }
     ensures lines { OnOk result (IsUsed (lines_of stock.old) (root_in operand.now.root) last (lines_of stock.new)) }
     ensures left { OnErr result (IsUsed (lines_of stock.old) (root_in operand.now.root) last (lines_of stock.new) ⊎ (stock.new ≡ stock.old)) }
+    ensures at_once { IsTooLong (lines_of stock.old) (root_in operand.now.root) (ops_in operand.now.chain.items)
+        → (result ≡ Err ActErr.TooManyRows) × (hands.new ≡ hands.old) × (stock.new ≡ stock.old) }
 
     // On every answer.
     ensures counts { S.faults out.old ≤ S.faults out.new }

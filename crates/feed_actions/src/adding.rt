@@ -1,5 +1,5 @@
 //! A column of the rows that arrive, added up by all workers.
-ghost use Rattle.std.specs.Prelude.{◌≡◌, ◌<◌, ◌≤◌, ◌%◌, ◌^◌, ◌⊎◌, Some, slice_get, IfOk, OnOk, IfErr, OnErr, All, length, vec_len};
+ghost use Rattle.std.specs.Prelude.{◌≡◌, Err, ◌<◌, ◌≤◌, ◌%◌, ◌^◌, ◌⊎◌, Some, slice_get, IfOk, OnOk, IfErr, OnErr, All, length, vec_len};
 ghost use Rattle.std.specs.List.{AllZip, sum_by};
 ghost use Rattle.row_defs.specs.Limits.{most_rows};
 ghost use Rattle.row_defs.specs.Printed.{column_sum};
@@ -12,12 +12,13 @@ ghost use Rattle.lop_chain.specs.Operands.{root_in};
 ghost use Rattle.scatter.specs.Lines.{HasRoot, root_kinds, root_feeds};
 ghost use Rattle.scatter.specs.Stocks.{lines_of, AreInPools};
 ghost use Rattle.scatter.specs.Phases.{pools_of, IsUsed, HasSent, HasStopped};
-ghost use Rattle.feed_actions.specs.Told.{AreTold, HasPermit};
+ghost use Rattle.scatter.specs.Told.{AreTold, HasPermit, arriving};
 ghost use Rattle.feed_actions.specs.Adding.{IsFreshSummer, rows_added, sum_in};
-ghost use Rattle.feed_actions.specs.Counting.{arriving, CountRefused};
+ghost use Rattle.feed_actions.specs.Counting.{IsTooLong, CountRefused};
 
 use crate::counter::TooManyRows;
 use crate::counting::few;
+use crate::known::check_known;
 use crate::summer::Summer;
 use block_pool::Hand;
 use dia_edge::{Disk, Gate, NoMemory};
@@ -112,7 +113,8 @@ fn sum_phase<'p, R: Threads + Wait + Sync, G: Gate + Sync, D: Disk + Send + Sync
     phase.finish(rt, alloc, stock, hands, summers, answer)
 }
 
-/// The sum of a column of the rows that arrive, modulo 2^64, by all workers in one phase.
+/// The sum of a column of the rows that arrive, modulo 2^64, by all workers in one phase, which isn't begun where more rows are
+/// known to arrive than may.
 pub(crate) fn sum_all<'p, R: Threads + Wait + Sync, G: Gate + Sync, D: Disk + Send + Sync, X: Net>(
     rt: &R,
     alloc: Global,
@@ -138,12 +140,17 @@ pub(crate) fn sum_all<'p, R: Threads + Wait + Sync, G: Gate + Sync, D: Disk + Se
     ensures refused { IfErr result (λ e. CountRefused (lines_of stock.old) (root_in operand.now.root) (ops_in operand.now.chain.items) hands.old.items hands.new.items e) }
     ensures lines { OnOk result (IsUsed (lines_of stock.old) (root_in operand.now.root) last (lines_of stock.new)) }
     ensures left { OnErr result (IsUsed (lines_of stock.old) (root_in operand.now.root) last (lines_of stock.new) ⊎ (stock.new ≡ stock.old)) }
+    ensures at_once { IsTooLong (lines_of stock.old) (root_in operand.now.root) (ops_in operand.now.chain.items)
+        → (e : TooManyRows) × (result ≡ Err (FeedErr.Sink e)) × (hands.new ≡ hands.old) × (stock.new ≡ stock.old) }
 
     // On every answer.
     ensures follows { AllZip Follows hands.old.items hands.new.items }
     ensures net { stock.new.net ≡ stock.old.net }
     ensures workers { stock.new.workers ≡ stock.old.workers }
 {
+    if let Err(refusal) = check_known(stock, operand) {
+        return Err(FeedErr::Sink(refusal));
+    }
     stock.joined(operand, last);
     let mut summers = match summers_for(alloc, hands.len(), column as usize) {
         Ok(summers) => summers,

@@ -1,5 +1,5 @@
 //! The rows that arrive, counted by all workers.
-ghost use Rattle.std.specs.Prelude.{◌≡◌, ◌<◌, ◌≤◌, ◌⊎◌, IfOk, OnOk, IfErr, OnErr, All, length, vec_len};
+ghost use Rattle.std.specs.Prelude.{◌≡◌, ℕ, false, Err, ◌<◌, ◌≤◌, ◌⊎◌, IfOk, OnOk, IfErr, OnErr, All, length, vec_len};
 ghost use Rattle.std.specs.List.{AllZip, sum_by};
 ghost use Rattle.row_defs.specs.Limits.{most_rows};
 ghost use Rattle.row_defs.specs.LocalOps.{AreSoundOps};
@@ -10,16 +10,17 @@ ghost use Rattle.lop_chain.specs.Operands.{root_in};
 ghost use Rattle.scatter.specs.Lines.{HasRoot, root_kinds, root_feeds};
 ghost use Rattle.scatter.specs.Stocks.{lines_of, AreInPools};
 ghost use Rattle.scatter.specs.Phases.{pools_of, IsUsed, HasSent, HasStopped};
-ghost use Rattle.feed_actions.specs.Told.{AreTold, HasPermit};
-ghost use Rattle.feed_actions.specs.Counting.{arriving, CountRefused, IsFreshCounter, rows_counted};
+ghost use Rattle.scatter.specs.Told.{AreTold, HasPermit, arriving};
+ghost use Rattle.feed_actions.specs.Counting.{known_extent, IsTooLong, CountRefused, IsFreshCounter, rows_counted};
 
 use crate::counter::{Counter, TooManyRows};
-use crate::known::known_count;
+use crate::known::{check_known, known_count};
 use block_pool::Hand;
 use dia_edge::{Disk, Gate, NoMemory};
 use hand_phase::run_hands;
 use lop_chain::{Operand, RowSink};
 use row_defs::limits::MOST_ROWS;
+use row_growth::Extent;
 use scatter::{FeedErr, Net, Phase, Stock};
 use std::alloc::Global;
 use std::sync::Wait;
@@ -135,14 +136,12 @@ fn count_all<'p, R: Threads + Wait + Sync, G: Gate + Sync, D: Disk + Send + Sync
     }
 }
 
-/// How many rows arrive: no more than may. They are counted only where that isn't known at once.
-pub(crate) fn rows_arriving<
-    'p,
-    R: Threads + Wait + Sync,
-    G: Gate + Sync,
-    D: Disk + Send + Sync,
-    X: Net,
->(
+/// How many rows arrive: no more than may. They are counted only where that isn't known at once: by all workers in one phase.
+///
+/// `Sink` says that more rows arrive than may, `Disk` comes only where the disk failed in this call, `Damaged` never where it
+/// tells, and `NoMemory` where there was none. On every answer each hand is there, and the lines are in stock as before with no
+/// part lent, but that where this is the last use the root's line is gone.
+pub fn rows_arriving<'p, R: Threads + Wait + Sync, G: Gate + Sync, D: Disk + Send + Sync, X: Net>(
     rt: &R,
     alloc: Global,
     way: &mut Way<'_, G>,
@@ -165,23 +164,27 @@ pub(crate) fn rows_arriving<
     ensures refused { IfErr result (λ e. CountRefused (lines_of stock.old) (root_in operand.now.root) (ops_in operand.now.chain.items) hands.old.items hands.new.items e) }
     ensures lines { OnOk result (IsUsed (lines_of stock.old) (root_in operand.now.root) last (lines_of stock.new)) }
     ensures left { OnErr result (IsUsed (lines_of stock.old) (root_in operand.now.root) last (lines_of stock.new) ⊎ (stock.new ≡ stock.old)) }
+    ensures at_once { IsTooLong (lines_of stock.old) (root_in operand.now.root) (ops_in operand.now.chain.items)
+        → (e : TooManyRows) × (result ≡ Err (FeedErr.Sink e)) × (hands.new ≡ hands.old) × (stock.new ≡ stock.old) }
+    ensures unread { (n : ℕ) → last ≡ false → known_extent (lines_of stock.old) (root_in operand.now.root) (ops_in operand.now.chain.items) ≡ Extent.Exactly n
+        → (hands.new ≡ hands.old) × (stock.new ≡ stock.old) }
 
     // On every answer.
     ensures follows { AllZip Follows hands.old.items hands.new.items }
     ensures net { stock.new.net ≡ stock.old.net }
     ensures workers { stock.new.workers ≡ stock.old.workers }
 {
-    let Some(rows) = known_count(stock, operand, last) else {
-        return count_all(rt, alloc, way, stock, operand, last, hands);
-    };
-    match few(rows) {
-        Ok(rows) => Ok(rows),
-        Err(refusal) => Err(FeedErr::Sink(refusal)),
+    if let Err(refusal) = check_known(stock, operand) {
+        return Err(FeedErr::Sink(refusal));
+    }
+    match known_count(stock, operand, last) {
+        Some(rows) => Ok(rows),
+        None => count_all(rt, alloc, way, stock, operand, last, hands),
     }
 }
 
-/// So many rows may arrive, or are too many.
-pub(crate) fn few(rows: u64) -> Result<u64, TooManyRows>
+/// So many rows may arrive at an action, or are too many.
+pub fn few(rows: u64) -> Result<u64, TooManyRows>
     ensures ok { IfOk result (λ n. (n ≡ rows) × (rows ≤ most_rows)) }
     ensures many { OnErr result (most_rows < rows) }
 {

@@ -1,36 +1,61 @@
-//! How many rows arrive, where that is known without reading one.
-ghost use Rattle.std.specs.Prelude.{◌≡◌, ◌-◌, ◌^◌, false, min, length, IfSome};
-ghost use Rattle.std.specs.List.{list_all};
+//! How many rows arrive, as far as that is known without reading one.
+ghost use Rattle.std.specs.Prelude.{◌≡◌, ◌<◌, ◌≤◌, ◌-◌, ◌^◌, ℕ, false, min, length, Some, IfSome, OnOk, OnErr};
+ghost use Rattle.row_defs.specs.Limits.{most_rows};
 ghost use Rattle.lop_chain.specs.Ops.{ops_in};
 ghost use Rattle.lop_chain.specs.Operands.{root_in};
+ghost use Rattle.row_growth.specs.Growth.{TellsExtent};
 ghost use Rattle.scatter.specs.Lines.{HasRoot};
 ghost use Rattle.scatter.specs.Stocks.{lines_of};
-ghost use Rattle.feed_actions.specs.Counting.{arriving, keeps_number};
+ghost use Rattle.scatter.specs.Told.{arriving};
+ghost use Rattle.feed_actions.specs.Counting.{known_extent, IsTooLong};
 
-use lop_chain::{Operand, ScriptOp};
+use crate::counter::TooManyRows;
+use crate::counting::few;
+use lop_chain::Operand;
+use row_defs::limits::LONGEST_TEXT;
+use row_growth::{Extent, extent_of};
 use scatter::{Net, Stock};
 
-/// Whether each line makes one row of each row.
-fn keep_number(ops: &[ScriptOp]) -> bool
-    ensures { result ≡ list_all keeps_number (ops_in ops.now) }
+/// How many rows arrive, as far as that is known without reading one: exactly where the chain makes as many rows of each.
+pub fn known_extent<X: Net>(stock: &Stock<X>, operand: &Operand) -> Extent
+    requires { HasRoot (lines_of stock.now) (root_in operand.now.root) }
+    ensures value { result ≡ known_extent (lines_of stock.now) (root_in operand.now.root) (ops_in operand.now.chain.items) }
+    ensures tells { TellsExtent result (length (arriving (lines_of stock.now) (root_in operand.now.root) (ops_in operand.now.chain.items))) }
 {
-    match ops.split_first() {
-        None => true,
-        Some((ScriptOp::Map(_), rest)) => keep_number(rest),
-        Some(_) => false,
-    }
+    let rows = stock.row_count(operand.root);
+    extent_of(rows, LONGEST_TEXT, operand.chain.as_slice())
 }
 
-/// How many rows arrive, or `u64::MAX` where they are more, where the chain makes one row of each and this isn't the last use,
-/// at which a line's blocks are to be freed.
+/// How many rows arrive, or `u64::MAX` where they are more, where the chain makes as many rows of each and this isn't the last
+/// use, at which a line's blocks are to be freed.
 pub(crate) fn known_count<X: Net>(stock: &Stock<X>, operand: &Operand, last: bool) -> Option<u64>
     requires { HasRoot (lines_of stock.now) (root_in operand.now.root) }
     ensures count { IfSome result (λ n. n
         ≡ min (length (arriving (lines_of stock.now) (root_in operand.now.root) (ops_in operand.now.chain.items))) (2 ^ 64 - 1)) }
+    ensures exact { IfSome result (λ n. known_extent (lines_of stock.now) (root_in operand.now.root) (ops_in operand.now.chain.items) ≡ Extent.Exactly n) }
     ensures kept { IfSome result (λ _. last ≡ false) }
+    ensures known { (n : ℕ) → last ≡ false → known_extent (lines_of stock.now) (root_in operand.now.root) (ops_in operand.now.chain.items) ≡ Extent.Exactly n
+        → result ≡ Some n }
 {
-    if last || !keep_number(operand.chain.as_slice()) {
-        return None;
+    match known_extent(stock, operand) {
+        Extent::Exactly(rows) if !last => Some(rows),
+        _ => None,
     }
-    Some(stock.row_count(operand.root))
+}
+
+/// Sees, where it is known at once how many rows arrive, that they aren't more than may.
+pub(crate) fn check_known<X: Net>(stock: &Stock<X>, operand: &Operand) -> Result<(), TooManyRows>
+    requires { HasRoot (lines_of stock.now) (root_in operand.now.root) }
+    ensures ok { OnOk result (IsTooLong (lines_of stock.now) (root_in operand.now.root) (ops_in operand.now.chain.items) → ⊥) }
+    ensures long { OnErr result (IsTooLong (lines_of stock.now) (root_in operand.now.root) (ops_in operand.now.chain.items)) }
+    ensures many { OnErr result (most_rows
+        < length (arriving (lines_of stock.now) (root_in operand.now.root) (ops_in operand.now.chain.items))) }
+{
+    match known_extent(stock, operand) {
+        Extent::Exactly(rows) => {
+            few(rows)?;
+            Ok(())
+        }
+        Extent::AtMost(_) => Ok(()),
+    }
 }

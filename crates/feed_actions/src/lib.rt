@@ -1,7 +1,8 @@
 //! Actions on the rows that all workers' feeds give: what `size` and `sum` come to.
 //!
 //! The layer above relies on `size` and `sum`: each is one phase over all workers, of which each counts or adds up the rows of
-//! its own feed. The lines in stock are afterwards as they were, and each worker's hand is there.
+//! its own feed. `rows_arriving` is the count alone. The lines in stock are afterwards as they were, and each worker's hand is
+//! there.
 #![tactic(auto)]
 
 mod action;
@@ -11,8 +12,10 @@ mod counting;
 mod known;
 mod summer;
 
-pub use action::{ActErr, size, sum};
+pub use action::{ActErr, refusal_of, size, sum};
 pub use counter::{Counter, TooManyRows};
+pub use counting::{few, rows_arriving};
+pub use known::known_extent;
 pub use summer::Summer;
 
 #[cfg(test)]

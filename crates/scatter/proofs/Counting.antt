@@ -1,8 +1,9 @@
 -- Numbers that are shared out.
-use Rattle.std.proofs.Common.{◌≡◌, ℕ, zero, suc, ◌+◌, ◌-◌, ◌<◌, ◌≤◌, map, length, drop, refl, sym, ◌∙◌, arith}
+use Rattle.std.proofs.Common.{◌≡◌, ℕ, zero, suc, ◌+◌, ◌-◌, ◌^◌, ◌<◌, ◌≤◌, map, length, drop, refl, sym, ◌∙◌, arith}
 use Rattle.std.specs.List.{range_with_len, slice_range}
 use Rattle.std.proofs.lemmas.List.FromFn.{length-map-range_with_len, take-map-range_with_len}
 use Rattle.row_defs.specs.Rows.{number_row}
+use Rattle.dia_file.specs.Encoding.{AllFit}
 use Rattle.collective.specs.Shares.{share_start, share_of}
 use Rattle.collective.proofs.ShareLaws.{start_ordered, start_within}
 use Rattle.scatter.specs.Feeds.{number_rows}
@@ -31,3 +32,7 @@ share_is rows workers rank less =
     let next : rank ≤ rank + 1 = omega arith in
     let within : rank + 1 ≤ workers = omega arith in
     rw len (sym (rows_between rows (share_start rows workers rank) (share_start rows workers (rank + 1)) (start_ordered rows workers rank (rank + 1) some next) (start_within rows workers (rank + 1) some within)))
+
+pub numbers_fit : (start count : ℕ) → start + count ≤ 2 ^ 64 → AllFit (map number_row (range_with_len start count))
+numbers_fit start zero below = tt
+numbers_fit start (suc count) below = ((omega (arith, below), tt), numbers_fit (start + 1) count (omega (arith, below)))

@@ -6,3 +6,4 @@ pub mod Making
 pub mod SentRows
 pub mod Threes
 pub mod Turns
+pub mod Arriving

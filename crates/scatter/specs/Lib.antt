@@ -9,3 +9,4 @@ pub mod Lines
 pub mod Stocks
 pub mod Worked
 pub mod Begun
+pub mod Told

@@ -23,7 +23,7 @@ mod stock;
 pub use feed::Feed;
 pub use feed_err::FeedErr;
 pub use net::{Home, Net};
-pub use phase::Phase;
+pub use phase::{Phase, give_back};
 pub use sending::Sending;
 pub use stock::Stock;
 

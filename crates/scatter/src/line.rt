@@ -1,6 +1,7 @@
 //! Stored lines.
 ghost use Rattle.std.specs.Prelude.{◌≡◌, ◌<◌, ◌≤◌, ◌-◌, ◌^◌, min, length, IsSome, IfOk, map, vec_len, vec_capacity, None, Some, Option, replicate, slice_get, slice_set};
 ghost use Rattle.std.specs.List.{flat_map, filter_map};
+ghost use Rattle.dia_file.specs.Encoding.{AllFit};
 ghost use Rattle.dia_file.specs.Files.{FileValue};
 ghost use Rattle.scatter.specs.Lines.{LineValue, line_value, first_kinds, with_parts, lines_in, Sets};
 
@@ -45,9 +46,10 @@ pub(crate) fn lent_parts(alloc: Global, count: usize) -> Result<Vec<Option<File>
     Ok(parts)
 }
 
-/// How many rows the parts that are there have in all, or `u64::MAX` where they are more.
+/// How many rows the parts that are there have in all, or `u64::MAX` where they are more. Each of them fits.
 pub(crate) fn rows_in_parts(parts: &[Option<File>]) -> u64
-    ensures { result ≡ min (length (flat_map (λ (f : FileValue). f.rows) (filter_map (λ part. part) parts.now))) (2 ^ 64 - 1) }
+    ensures len { result ≡ min (length (flat_map (λ (f : FileValue). f.rows) (filter_map (λ part. part) parts.now))) (2 ^ 64 - 1) }
+    ensures fit { AllFit (flat_map (λ (f : FileValue). f.rows) (filter_map (λ part. part) parts.now)) }
 {
     match parts.split_first() {
         None => 0,

@@ -199,8 +199,9 @@ fn flat<R: Drop>(answer: Result<(), Stopped<FeedErr<R>>>) -> Result<(), FeedErr<
     }
 }
 
-/// A stored root's parts that were lent are in stock again.
-fn give_back<X: Net>(stock: &mut Stock<X>, root: Root, last: bool, parts: Vec<Option<File>>)
+/// A stored root's parts that were lent are in stock again: those that its feeds gave back, by rank. After a last use, and for
+/// numbers, none were lent, and there is nothing to do. It takes no memory and has no refusal.
+pub fn give_back<X: Net>(stock: &mut Stock<X>, root: Root, last: bool, parts: Vec<Option<File>>)
     requires { IsToRestore (root_in root) last (lines_of stock.old) stock.old.workers parts.items }
     ensures lines { IsRestored (root_in root) last (lines_of stock.old) parts.items (lines_of stock.new) }
     ensures net { stock.new.net ≡ stock.old.net }

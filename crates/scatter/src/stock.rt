@@ -2,6 +2,7 @@
 ghost use Rattle.std.specs.Prelude.{◌≡◌, ◌<◌, ◌-◌, ◌^◌, min, ℕ, List, All, map, length, None, Some, IfOk, IfErr, OnOk, OnErr, vec_len, slice_get, slice_set};
 ghost use Rattle.std.specs.List.{AllZip, flat_map};
 ghost use Rattle.block_pool.specs.Handles.{PoolName};
+ghost use Rattle.dia_file.specs.Encoding.{AllFit};
 ghost use Rattle.dia_file.specs.Files.{FileValue, IsFileOf};
 ghost use Rattle.lop_chain.specs.Operands.{root_in};
 ghost use Rattle.lop_chain.specs.Ops.{ops_in};
@@ -107,10 +108,11 @@ impl<X: Net> Stock<X> {
         feed_root(alloc, &mut self.lines, operand.root, chains, last)
     }
 
-    /// How many rows a root has, or `u64::MAX` where they are more. It reads no block.
+    /// How many rows a root has, or `u64::MAX` where they are more. Each of them fits. It reads no block.
     pub fn row_count(&self, root: Root) -> u64
         requires { HasRoot (lines_of self.now) (root_in root) }
-        ensures { result ≡ min (length (root_rows (lines_of self.now) (root_in root))) (2 ^ 64 - 1) }
+        ensures len { result ≡ min (length (root_rows (lines_of self.now) (root_in root))) (2 ^ 64 - 1) }
+        ensures fit { AllFit (root_rows (lines_of self.now) (root_in root)) }
     {
         match root {
             Root::Count { rows, .. } => rows,

@@ -5,15 +5,18 @@ use Rattle.row_defs.specs.Limits.{most_rows}
 use Rattle.lop_chain.specs.Operands.{root_in}
 use Rattle.lop_chain.specs.Ops.{ops_in}
 use Rattle.scatter.specs.Stocks.{lines_of}
-use Rattle.feed_actions.specs.Counting.{arriving}
+use Rattle.scatter.specs.Told.{arriving}
 use Rattle.feed_actions.specs.Adding.{rows_added, sum_in, column_in}
-use Rattle.feed_actions.proofs.TurnCounts.{permits_same}
+use Rattle.scatter.proofs.Arriving.{permits_same}
 use Rattle.feed_actions.proofs.Counts.{follow_refl, counted_all, refused_by}
 use Rattle.feed_actions.proofs.TurnSums.{summed_all}
 use Rattle.feed_actions.proofs.adding.sum_all.Goals as goal
 
 pub returns-in-Err-clause-follows : goal.returns-in-Err-clause-follows
 returns-in-Err-clause-follows g c = follow_refl c.args.hands.now.items
+
+pub returns-in-Err-summers_for-clause-follows : goal.returns-in-Err-summers_for-clause-follows
+returns-in-Err-summers_for-clause-follows g c = follow_refl c.args.hands.now.items
 
 pub returns-in_err-sum_phase-clause-refused : goal.returns-in_err-sum_phase-clause-refused
 returns-in_err-sum_phase-clause-refused g c =

@@ -5,8 +5,9 @@ use Rattle.row_defs.specs.Limits.{most_rows}
 use Rattle.lop_chain.specs.Operands.{root_in}
 use Rattle.lop_chain.specs.Ops.{ops_in}
 use Rattle.scatter.specs.Stocks.{lines_of}
-use Rattle.feed_actions.specs.Counting.{arriving, rows_counted}
-use Rattle.feed_actions.proofs.TurnCounts.{permits_same}
+use Rattle.scatter.specs.Told.{arriving}
+use Rattle.feed_actions.specs.Counting.{rows_counted}
+use Rattle.scatter.proofs.Arriving.{permits_same}
 use Rattle.feed_actions.proofs.Counts.{follow_refl, counted_all, refused_by}
 use Rattle.feed_actions.proofs.counting.count_all.Goals as goal
 

@@ -1,4 +1,4 @@
-use Rattle.std.proofs.Common.{◌≡◌, ◌++◌, length, vec_len}
+use Rattle.std.proofs.Common.{◌≡◌, length, vec_len}
 use Rattle.std.specs.Prelude.{vec_capacity}
 use Rattle.block_pool.specs.Workers.{new_pool}
 use Rattle.hand_phase.specs.Rounds.{AreHands}

@@ -1,7 +1,15 @@
--- Where the rows of a root are known, and what a fault of the disk says.
+-- The rows that arrive at a phase, where they are known, and what a fault of the disk says.
 use Rattle.std.specs.Prelude.{◌≡◌, ◌<◌, ℕ, true, List, All, Some, ⊤, slice_get}
+use Rattle.row_defs.specs.Rows.{Row}
+use Rattle.row_defs.specs.LocalOps.{LocalOp}
 use Rattle.row_defs.specs.Operands.{Root, stored_root, count_root}
 use Rattle.block_pool.specs.Handles.{HandValue, HasHit, Follows}
+use Rattle.lop_chain.specs.Ops.{rows_from}
+use Rattle.scatter.specs.Lines.{Lines, root_rows}
+
+-- the rows that arrive: what the local lines make of the root's
+abbrev pub arriving : Lines → Root → List LocalOp → List Row
+arriving lines root ops = rows_from ops (root_rows lines root)
 
 -- the hand's disk tells
 abbrev pub Tells : HandValue → Type 0
