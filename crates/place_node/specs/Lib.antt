@@ -1,0 +1,4 @@
+pub mod Placing
+pub mod Ending
+pub mod Rooms
+pub mod Worked
