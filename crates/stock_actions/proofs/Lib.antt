@@ -1,0 +1,5 @@
+pub mod Snoc
+pub mod Grown
+pub mod Roots
+pub mod SameLines
+pub mod Stops

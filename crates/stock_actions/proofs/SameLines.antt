@@ -1,0 +1,130 @@
+-- Lines and hands after a phase that left the lines as they were.
+use Rattle.std.proofs.Common.{◌≡◌, ℕ, zero, suc, Bool, true, false, List, [], ◌∷◌, Some, inl, inr, refl, sym, ap, subst, ◌∙◌}
+use Rattle.std.specs.Prelude.{All, slice_get}
+use Rattle.std.specs.List.{AllZip}
+use Rattle.std.proofs.lemmas.List.Elements.{All-nil, All-cons, All-head, All-tail}
+use Rattle.row_defs.specs.LocalOps.{LocalOp}
+use Rattle.row_defs.specs.Operands.{Root, stored_root, count_root}
+use Rattle.block_pool.specs.Handles.{PoolName, HandValue, Follows}
+use Rattle.block_pool.specs.Follows.{follows_trans}
+use Rattle.scatter.specs.Lines.{Lines, HasRoot, root_kinds, root_rows}
+use Rattle.lop_chain.specs.Ops.{rows_from}
+use Rattle.scatter.specs.Stocks.{AreInPools}
+use Rattle.scatter.specs.SendLaws.{hit_from}
+use Rattle.scatter.specs.Phases.{IsUsed, pools_of}
+use Rattle.scatter.specs.Told.{Tells, AreTold, HasPermit, SomeHit, arriving}
+
+abbrev SamePermits : HandValue → HandValue → Type 0
+SamePermits a b = b.permits ≡ a.permits
+
+-- lines -------------------------------------------------------------------------------------------------------------------
+
+pub each_line : (lines now : Lines) (root : Root) → IsUsed lines root false now → (m : ℕ) → now m ≡ lines m
+each_line lines now (stored_root n) used = used
+each_line lines now (count_root n rows) used = used
+
+pub still_used : (lines : Lines) (root : Root) → IsUsed lines root false lines
+still_used lines (stored_root n) = λ m. refl
+still_used lines (count_root n rows) = λ m. refl
+
+module _ (lines now : Lines) (same : (m : ℕ) → now m ≡ lines m) where
+  pub root_there : (root : Root) → HasRoot lines root → HasRoot now root
+  root_there (stored_root n) has = record { line = has.line; there = same n ∙ has.there; whole = has.whole }
+  root_there (count_root n rows) has = tt
+
+  pub kinds_still : (root : Root) → root_kinds now root ≡ root_kinds lines root
+  kinds_still (stored_root n) = rw (same n) refl
+  kinds_still (count_root n rows) = refl
+
+  rows_still : (root : Root) → root_rows now root ≡ root_rows lines root
+  rows_still (stored_root n) = rw (same n) refl
+  rows_still (count_root n rows) = refl
+
+  pub arriving_still : (root : Root) (ops : List LocalOp) → arriving now root ops ≡ arriving lines root ops
+  arriving_still root ops = ap (rows_from ops) (rows_still root)
+
+  pub pools_still : (pools : List PoolName) → AreInPools pools lines → AreInPools pools now
+  pools_still pools all = λ n line there. all n line (sym (same n) ∙ there)
+
+  pub used_since : (root : Root) (last : Bool) (later : Lines) → IsUsed now root last later → IsUsed lines root last later
+  used_since (stored_root n) true later used = record {
+    here = used.here;
+    others = λ m. elim (used.others m) [ inl is ↦ inl is | inr other ↦ inr (other ∙ same m) ];
+  }
+  used_since (stored_root n) false later used = λ m. used m ∙ same m
+  used_since (count_root n rows) last later used = λ m. used m ∙ same m
+
+-- hands -------------------------------------------------------------------------------------------------------------------
+
+pub same_pools : (hs bs : List HandValue) → AllZip Follows hs bs → pools_of bs ≡ pools_of hs
+same_pools [] [] all = refl
+same_pools [] (b ∷ bs) all = absurd all
+same_pools (a ∷ hs) [] all = absurd all
+same_pools (a ∷ hs) (b ∷ bs) all = let here = all.0.pool in let rest = same_pools hs bs all.1 in cc
+
+pub still_permits : (hs bs : List HandValue) → AllZip SamePermits hs bs → All HasPermit hs → All HasPermit bs
+still_permits [] [] all permits = All-nil HasPermit
+still_permits [] (b ∷ bs) all permits = absurd all
+still_permits (a ∷ hs) [] all permits = absurd all
+still_permits (a ∷ hs) (b ∷ bs) all permits =
+    All-cons HasPermit b bs (rw all.0 (All-head HasPermit a hs permits)) (still_permits hs bs all.1 (All-tail HasPermit a hs permits))
+
+pub permits_trans : (hs bs cs : List HandValue) → AllZip SamePermits hs bs → AllZip SamePermits bs cs → AllZip SamePermits hs cs
+permits_trans [] [] [] p q = tt
+permits_trans (a ∷ hs) (b ∷ bs) (c ∷ cs) p q = (q.0 ∙ p.0, permits_trans hs bs cs p.1 q.1)
+permits_trans [] (b ∷ bs) cs p q = absurd p
+permits_trans (a ∷ hs) [] cs p q = absurd p
+permits_trans [] [] (c ∷ cs) p q = absurd q
+permits_trans (a ∷ hs) (b ∷ bs) [] p q = absurd q
+
+pub follow_trans : (hs bs cs : List HandValue) → AllZip Follows hs bs → AllZip Follows bs cs → AllZip Follows hs cs
+follow_trans [] [] [] p q = tt
+follow_trans (a ∷ hs) (b ∷ bs) (c ∷ cs) p q = (follows_trans a b c p.0 q.0, follow_trans hs bs cs p.1 q.1)
+follow_trans [] (b ∷ bs) cs p q = absurd p
+follow_trans (a ∷ hs) [] cs p q = absurd p
+follow_trans [] [] (c ∷ cs) p q = absurd q
+follow_trans (a ∷ hs) (b ∷ bs) [] p q = absurd q
+
+pub all_tell : (hs bs : List HandValue) → AllZip Follows hs bs → All Tells hs → All Tells bs
+all_tell [] [] all tells = All-nil Tells
+all_tell [] (b ∷ bs) all tells = absurd all
+all_tell (a ∷ hs) [] all tells = absurd all
+all_tell (a ∷ hs) (b ∷ bs) all tells =
+    All-cons Tells b bs (ap (λ (pool : PoolName). pool.opening.tells) all.0.pool ∙ All-head Tells a hs tells) (all_tell hs bs all.1 (All-tail Tells a hs tells))
+
+pub told_still : (root : Root) (hs bs : List HandValue) → AllZip Follows hs bs → AreTold root hs → AreTold root bs
+told_still (stored_root n) hs bs all told = all_tell hs bs all told
+told_still (count_root n rows) hs bs all told = tt
+
+-- the hand of a rank before
+hand_before : (hs bs : List HandValue) (k : ℕ) (b : HandValue) → AllZip Follows hs bs → slice_get bs k ≡ Some b → (a : HandValue) × (slice_get hs k ≡ Some a) × Follows a b
+hand_before [] [] k b all at = cc
+hand_before [] (c ∷ bs) k b all at = absurd all
+hand_before (a ∷ hs) [] k b all at = absurd all
+hand_before (a ∷ hs) (c ∷ bs) zero b all at = let same : c ≡ b = cc in (a, refl, subst (λ d. Follows a d) same all.0)
+hand_before (a ∷ hs) (c ∷ bs) (suc k) b all at = hand_before hs bs k b all.1 at
+
+pub hit_since : (hs bs cs : List HandValue) (count : ℕ) → AllZip Follows hs bs → SomeHit bs cs count → SomeHit hs cs count
+hit_since hs bs cs count all h =
+    let it = hand_before hs bs h.rank h.before all h.was in
+    record {
+      rank = h.rank;
+      before = it.0;
+      met = h.met;
+      after = h.after;
+      was = it.1;
+      is = h.is;
+      hit = hit_from it.0 h.before h.met count it.2 h.hit;
+      later = h.later;
+    }
+
+told_before : (hs bs : List HandValue) → AllZip Follows hs bs → All Tells bs → All Tells hs
+told_before [] [] all tells = All-nil Tells
+told_before [] (b ∷ bs) all tells = absurd all
+told_before (a ∷ hs) [] all tells = absurd all
+told_before (a ∷ hs) (b ∷ bs) all tells =
+    All-cons Tells a hs (ap (λ (pool : PoolName). pool.opening.tells) (sym all.0.pool) ∙ All-head Tells b bs tells) (told_before hs bs all.1 (All-tail Tells b bs tells))
+
+pub told_back : (root : Root) (hs bs : List HandValue) → AllZip Follows hs bs → AreTold root bs → AreTold root hs
+told_back (stored_root n) hs bs all told = told_before hs bs all told
+told_back (count_root n rows) hs bs all told = tt
