@@ -3,7 +3,7 @@ use Rattle.std.specs.Prelude.{ℕ, List, ◌++◌, decimal, codes}
 use Rattle.row_defs.specs.declared.cause.Cause.{Cause}
 use Rattle.row_defs.specs.declared.cause.Cause.TheVariants as causes
 use Rattle.job_words.specs.declared.fault.TopFault.{TopFault}
-use Rattle.job_words.specs.declared.fault.TopFault.TheVariants.{Usage, Script, Missing, LineTooLong, InputTooLong, TooManyRows, ReadFault, WriteFault, NoMemory}
+use Rattle.job_words.specs.declared.fault.TopFault.TheVariants.{Usage, Script, Missing, LineTooLong, InputTooLong, PoolTooSmall, TooManyRows, ReadFault, WriteFault, DiskFault, Damaged, NoMemory}
 
 abbrev pub fault_status : TopFault → ℕ
 fault_status Usage = 2
@@ -11,9 +11,12 @@ fault_status (Script line cause) = 3
 fault_status (Missing name) = 4
 fault_status (LineTooLong name line) = 5
 fault_status (InputTooLong name) = 5
+fault_status (PoolTooSmall frames need) = 6
 fault_status (TooManyRows line) = 7
 fault_status (ReadFault count) = 8
 fault_status (WriteFault count) = 9
+fault_status (DiskFault count) = 10
+fault_status Damaged = 11
 fault_status NoMemory = 12
 
 abbrev pub cause_name : Cause → List ℕ
@@ -37,7 +40,10 @@ fault_line (Script line cause) = codes "thrill: script line " ++ (decimal line +
 fault_line (Missing name) = codes "thrill: missing " ++ (name ++ codes "\n")
 fault_line (LineTooLong name line) = codes "thrill: " ++ (name ++ (codes " line " ++ (decimal line ++ codes " too long\n")))
 fault_line (InputTooLong name) = codes "thrill: " ++ (name ++ codes " too long\n")
+fault_line (PoolTooSmall frames need) = codes "thrill: pool has " ++ (decimal frames ++ (codes " frames, needs " ++ (decimal need ++ codes "\n")))
 fault_line (TooManyRows line) = codes "thrill: script line " ++ (decimal line ++ codes ": too many rows\n")
 fault_line (ReadFault count) = codes "thrill: read failed\n"
 fault_line (WriteFault count) = codes "thrill: write failed\n"
+fault_line (DiskFault count) = codes "thrill: disk failed\n"
+fault_line Damaged = codes "thrill: block damaged\n"
 fault_line NoMemory = codes "thrill: no memory\n"

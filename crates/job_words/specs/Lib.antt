@@ -1,2 +1,5 @@
+pub mod Settings
 pub mod Words
+pub mod Within
+pub mod Cutting
 pub mod Faults

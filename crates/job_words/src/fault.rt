@@ -36,6 +36,13 @@ pub enum TopFault {
         /// The input's name.
         name: Name,
     },
+    /// The pool has too few frames for the job; status 6.
+    PoolTooSmall {
+        /// How many it has.
+        frames: u64,
+        /// How many the job needs.
+        need: u64,
+    },
     /// More than 2^40 rows arrive at an action; status 7.
     TooManyRows {
         /// The action's line in the script.
@@ -51,6 +58,13 @@ pub enum TopFault {
         /// Its count of faults.
         count: u64,
     },
+    /// The disk of the pool failed; status 10.
+    DiskFault {
+        /// Its count of faults.
+        count: u64,
+    },
+    /// A block that was read back from the disk isn't the block that was written; status 11.
+    Damaged,
     /// There was no memory; status 12.
     NoMemory,
 }
@@ -65,9 +79,12 @@ impl TopFault {
             TopFault::Script { .. } => 3,
             TopFault::Missing { .. } => 4,
             TopFault::LineTooLong { .. } | TopFault::InputTooLong { .. } => 5,
+            TopFault::PoolTooSmall { .. } => 6,
             TopFault::TooManyRows { .. } => 7,
             TopFault::ReadFault { .. } => 8,
             TopFault::WriteFault { .. } => 9,
+            TopFault::DiskFault { .. } => 10,
+            TopFault::Damaged => 11,
             TopFault::NoMemory => 12,
         }
     }
@@ -134,6 +151,22 @@ pub fn put_fault<E: Sink>(fault: &TopFault, err: &mut E) -> Result<(), Failed>
         TopFault::InputTooLong { name } => {
             put_pieces(err, &[b"thrill: ", name.text().as_bytes(), b" too long\n"])
         }
+        TopFault::PoolTooSmall { frames, need } => {
+            let mut frame_digits = itoa::Buffer::new();
+            let frames = frame_digits.format(*frames).as_bytes();
+            let mut need_digits = itoa::Buffer::new();
+            let need = need_digits.format(*need).as_bytes();
+            put_pieces(
+                err,
+                &[
+                    b"thrill: pool has ",
+                    frames,
+                    b" frames, needs ",
+                    need,
+                    b"\n",
+                ],
+            )
+        }
         TopFault::TooManyRows { line } => {
             let mut digits = itoa::Buffer::new();
             let number = digits.format(*line).as_bytes();
@@ -144,6 +177,8 @@ pub fn put_fault<E: Sink>(fault: &TopFault, err: &mut E) -> Result<(), Failed>
         }
         TopFault::ReadFault { .. } => put_pieces(err, &[b"thrill: read failed\n"]),
         TopFault::WriteFault { .. } => put_pieces(err, &[b"thrill: write failed\n"]),
+        TopFault::DiskFault { .. } => put_pieces(err, &[b"thrill: disk failed\n"]),
+        TopFault::Damaged => put_pieces(err, &[b"thrill: block damaged\n"]),
         TopFault::NoMemory => put_pieces(err, &[b"thrill: no memory\n"]),
     }
 }

@@ -71,9 +71,12 @@ status_says (faults.Script n cause) a b c d P h = record { usage = λ e. cc; som
 status_says (faults.Missing name) a b c d P h = record { usage = λ e. cc; some = λ e. cc; read = λ e. absurd (omega arith); write = λ e. absurd (omega arith); untouched = neither 4 P (omega arith) }
 status_says (faults.LineTooLong name n) a b c d P h = record { usage = λ e. cc; some = λ e. cc; read = λ e. absurd (omega arith); write = λ e. absurd (omega arith); untouched = neither 5 P (omega arith) }
 status_says (faults.InputTooLong name) a b c d P h = record { usage = λ e. cc; some = λ e. cc; read = λ e. absurd (omega arith); write = λ e. absurd (omega arith); untouched = neither 5 P (omega arith) }
+status_says (faults.PoolTooSmall frames need) a b c d P h = record { usage = λ e. cc; some = λ e. cc; read = λ e. absurd (omega arith); write = λ e. absurd (omega arith); untouched = neither 6 P (omega arith) }
 status_says (faults.TooManyRows n) a b c d P h = record { usage = λ e. cc; some = λ e. cc; read = λ e. absurd (omega arith); write = λ e. absurd (omega arith); untouched = neither 7 P (omega arith) }
 status_says (faults.ReadFault count) a b c d P h = record { usage = λ e. cc; some = λ e. cc; read = λ e. h.tells.0; write = λ e. absurd (omega arith); untouched = neither 8 P (omega arith) }
 status_says (faults.WriteFault count) a b c d P h = record { usage = λ e. cc; some = λ e. cc; read = λ e. absurd (omega arith); write = λ e. h.tells.0; untouched = neither 9 P (omega arith) }
+status_says (faults.DiskFault count) a b c d P h = record { usage = λ e. cc; some = λ e. cc; read = λ e. absurd (omega arith); write = λ e. absurd (omega arith); untouched = neither 10 P (omega arith) }
+status_says faults.Damaged a b c d P h = record { usage = λ e. cc; some = λ e. cc; read = λ e. absurd (omega arith); write = λ e. absurd (omega arith); untouched = neither 11 P (omega arith) }
 status_says faults.NoMemory a b c d P h = record { usage = λ e. cc; some = λ e. cc; read = λ e. absurd (omega arith); write = λ e. absurd (omega arith); untouched = neither 12 P (omega arith) }
 
 -- ends ----------------------------------------------------------------------------------------------------------------
@@ -109,9 +112,12 @@ accepted_end inputs name (Some (faults.Script n cause)) took h = absurd h.end
 accepted_end inputs name (Some (faults.Missing absent)) took h = inr h
 accepted_end inputs name (Some (faults.LineTooLong long n)) took h = h
 accepted_end inputs name (Some (faults.InputTooLong long)) took h = h
+accepted_end inputs name (Some (faults.PoolTooSmall frames need)) took h = absurd h.end
 accepted_end inputs name (Some (faults.TooManyRows n)) took h = h
 accepted_end inputs name (Some (faults.ReadFault count)) took h = inr h
 accepted_end inputs name (Some (faults.WriteFault count)) took h = h
+accepted_end inputs name (Some (faults.DiskFault count)) took h = absurd h.end
+accepted_end inputs name (Some faults.Damaged) took h = absurd h.end
 accepted_end inputs name (Some faults.NoMemory) took h = inr h
 
 pub accepted_ends : (inputs : Inputs) (name : List ℕ) (begun taken : Option (List ℕ)) (fault : Option TopFault) (all : List ℕ) (script : Script)
@@ -252,10 +258,13 @@ complete_end inputs name script (Some (faults.LineTooLong long n)) took status a
     never_stopped inputs name script (Some (faults.LineTooLong long n)) took long (line_too_long n) _ r e e.end
 complete_end inputs name script (Some (faults.InputTooLong long)) took status a b c d r e is h shelf out =
     never_stopped inputs name script (Some (faults.InputTooLong long)) took long input_too_long _ r e e.end
+complete_end inputs name script (Some (faults.PoolTooSmall frames need)) took status a b c d r e is h shelf out = absurd e.end
 complete_end inputs name script (Some (faults.TooManyRows n)) took status a b c d r e is h shelf out =
     (inr (inl is), λ none. never_many inputs name script (Some (faults.TooManyRows n)) took n _ r e e.end none)
 complete_end inputs name script (Some (faults.ReadFault count)) took status a b c d r e is h shelf out = absurd (shelf h.0)
 complete_end inputs name script (Some (faults.WriteFault count)) took status a b c d r e is h shelf out = absurd (out h.0)
+complete_end inputs name script (Some (faults.DiskFault count)) took status a b c d r e is h shelf out = absurd e.end
+complete_end inputs name script (Some faults.Damaged) took status a b c d r e is h shelf out = absurd e.end
 complete_end inputs name script (Some faults.NoMemory) took status a b c d r e is h shelf out = whole_12 script inputs status is
 
 pub complete_so : (inputs : Inputs) (name : List ℕ) (begun : Option (List ℕ)) (script : Script) (taken : Option (List ℕ)) (fault : Option TopFault) (status a b c d : ℕ)

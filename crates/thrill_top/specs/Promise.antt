@@ -24,9 +24,12 @@ RunEnd script inputs (Some (faults.Script n cause)) took = ⊥
 RunEnd script inputs (Some (faults.Missing name)) took = IsStopped script inputs name missing took
 RunEnd script inputs (Some (faults.LineTooLong name n)) took = IsStopped script inputs name (line_too_long n) took
 RunEnd script inputs (Some (faults.InputTooLong name)) took = IsStopped script inputs name input_too_long took
+RunEnd script inputs (Some (faults.PoolTooSmall frames need)) took = ⊥
 RunEnd script inputs (Some (faults.TooManyRows n)) took = IsTooMany script inputs n took
 RunEnd script inputs (Some (faults.ReadFault count)) took = IsCutOff script inputs took
 RunEnd script inputs (Some (faults.WriteFault count)) took = IsCutOff script inputs took
+RunEnd script inputs (Some (faults.DiskFault count)) took = ⊥
+RunEnd script inputs (Some faults.Damaged) took = ⊥
 RunEnd script inputs (Some faults.NoMemory) took = IsCutOff script inputs took
 
 -- the input with this name reads as one script, and its run ends so
