@@ -33,4 +33,4 @@ returns-in-Sum-clause-refused g c =
     let text = sum_text c.in-Sum.column in
     let Of : statements.Action → Type 0 = λ a. IfErr c.sum.result (ActStopped g.S.Sink lines root ops (text_of_rows (action_in a)) hands later old new) in
     subst Of (sym c.in-Sum.is) (IfErr-map c.sum.result (ActRefused g.S.Sink lines root ops text hands later old new) (ActStopped g.S.Sink lines root ops text hands later old new)
-        (number_stops g.S.Sink root ops text lines hands later old new) c.sum.ensures.refused)
+    (number_stops g.S.Sink root ops text lines hands later old new) c.sum.ensures.refused)
