@@ -1,2 +1,5 @@
-pub mod CountLemmas
-pub mod WriteLemmas
+pub mod Snoc
+pub mod Grown
+pub mod Roots
+pub mod SameLines
+pub mod Stops

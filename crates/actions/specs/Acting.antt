@@ -1,40 +1,42 @@
 -- Why an action wasn't done, and what the sink took.
-use Rattle.std.specs.Prelude.{◌≡◌, ◌<◌, ◌≤◌, ℕ, List, length, Option, Result, OnOk, IfErr}
+use Rattle.std.specs.Prelude.{◌≡◌, ◌<◌, ◌≤◌, ◌⊎◌, ℕ, List, All, length}
 use Rattle.row_defs.specs.Limits.{most_rows}
 use Rattle.row_defs.specs.Rows.{Row}
+use Rattle.row_defs.specs.LocalOps.{LocalOp}
+use Rattle.row_defs.specs.Operands.{Root}
 use Rattle.dia_edge.specs.Counts.{TellsCount}
-use Rattle.dia_edge.specs.Sinks.{TookAll, TookPrefix}
+use Rattle.dia_edge.specs.Sinks.{TookPrefix}
 use Rattle.dia_edge.specs.declared.sink.Sink.{Ghosts}
-use Rattle.actions.specs.declared.action.ActErr.{ActErr}
-use Rattle.actions.specs.declared.action.ActErr.TheVariants.{TooManyRows, Write, NoMemory}
+use Rattle.block_pool.specs.Handles.{HandValue}
+use Rattle.dia_edge.specs.declared.refusals.Failed.{Failed}
+use Rattle.scatter.specs.declared.feed_err.FeedErr.{FeedErr}
+use Rattle.scatter.specs.declared.feed_err.FeedErr.TheVariants as feeds
+use Rattle.scatter.specs.Lines.{Lines}
+use Rattle.feed_actions.specs.declared.action.ActErr.{ActErr}
+use Rattle.feed_actions.specs.declared.action.ActErr.TheVariants.{Disk, Damaged, NoMemory, TooManyRows, Write}
+use Rattle.scatter.specs.Told.{Tells, AreTold, SomeHit, arriving}
 
--- on these rows, of which the action's text is this: too many rows arrive, and nothing was taken; or no more than may,
--- and a write failed after some prefix of the text; or memory ran out before the text began
-abbrev pub Refuses : List Row → List ℕ → ActErr → Option (List ℕ) → Option (List ℕ) → Type 0
-Refuses rows text TooManyRows taken now = (most_rows < length rows) × (now ≡ taken)
-Refuses rows text (Write count) taken now = (length rows ≤ most_rows) × TookPrefix taken text now
-Refuses rows text NoMemory taken now = now ≡ taken
+-- where the rows are known, no more arrive than may, and the sink took a prefix of the text
+abbrev pub IsBegun : {S : Type 0} → Ghosts S → Lines → Root → List LocalOp → (List Row → List ℕ) → List HandValue → S → S → Type 0
+IsBegun g lines root ops text hands old new =
+    AreTold root hands → (length (arriving lines root ops) ≤ most_rows) × TookPrefix (g.taken old) (text (arriving lines root ops)) (g.taken new)
 
--- the writing of a text was cut off: a write failed after some prefix of it, or memory ran out before it began
-abbrev pub CutsOff : List ℕ → ActErr → Option (List ℕ) → Option (List ℕ) → Type 0
-CutsOff text TooManyRows taken now = ⊥
-CutsOff text (Write count) taken now = TookPrefix taken text now
-CutsOff text NoMemory taken now = now ≡ taken
+-- the text was cut off: nothing was written, or some prefix of it
+abbrev pub IsCutOff : {S : Type 0} → Ghosts S → Lines → Root → List LocalOp → (List Row → List ℕ) → List HandValue → S → S → Type 0
+IsCutOff g lines root ops text hands old new = (new ≡ old) ⊎ IsBegun g lines root ops text hands old new
 
--- a failed write tells the count of the sink, which rose
-abbrev pub TellsWrite : ActErr → ℕ → ℕ → Type 0
-TellsWrite (Write count) before now = TellsCount count before now
-TellsWrite _ before now = Unit {0}
+-- why an action wasn't done that writes this text of the rows that arrive, with the hands and the sink before and after
+abbrev pub ActStopped : {S : Type 0} → Ghosts S → Lines → Root → List LocalOp → (List Row → List ℕ) → List HandValue → List HandValue → S → S → ActErr → Type 0
+ActStopped g lines root ops text hands now old new TooManyRows = (AreTold root hands → most_rows < length (arriving lines root ops)) × (new ≡ old)
+ActStopped g lines root ops text hands now old new (Disk count) = SomeHit hands now count × IsCutOff g lines root ops text hands old new
+ActStopped g lines root ops text hands now old new Damaged = (All Tells hands → ⊥) × IsCutOff g lines root ops text hands old new
+ActStopped g lines root ops text hands now old new NoMemory = IsCutOff g lines root ops text hands old new
+ActStopped g lines root ops text hands now old new (Write count) =
+    IsBegun g lines root ops text hands old new × TellsCount count (g.faults old) (g.faults new)
 
--- what a call says that writes this text: it was taken whole, or cut off; a failed write tells the count, which never falls
-pub record Writes {S T : Type 0} (g : Ghosts S) (old new : S) (text : List ℕ) (result : Result T ActErr) : Type 0 where
-  pub ok : OnOk result (TookAll (g.taken old) text (g.taken new))
-  pub cut : IfErr result (λ e. CutsOff text e (g.taken old) (g.taken new))
-  pub told : IfErr result (λ e. TellsWrite e (g.faults old) (g.faults new))
-  pub counts : g.faults old ≤ g.faults new
-
--- nothing is written: of these rows too many arrive, or memory ran out
-abbrev pub WritesNothing : List Row → ActErr → Type 0
-WritesNothing rows TooManyRows = most_rows < length rows
-WritesNothing rows (Write count) = ⊥
-WritesNothing rows NoMemory = Unit {0}
+-- what a refusal to print is for an action, where the sink's faults are so many
+abbrev pub print_refusal : ℕ → FeedErr Failed → ActErr
+print_refusal faults (feeds.Sink e) = Write faults
+print_refusal faults (feeds.Disk count) = Disk count
+print_refusal faults feeds.Damaged = Damaged
+print_refusal faults feeds.NoMemory = NoMemory

@@ -1,2 +1,2 @@
-pub mod Arriving
+pub mod Printing
 pub mod Acting

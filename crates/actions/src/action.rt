@@ -1,117 +1,88 @@
 //! Does an action.
-ghost use Rattle.std.specs.Prelude.{◌≡◌, ◌≤◌, [], length, OnOk, IfErr, List};
-ghost use Rattle.row_defs.specs.declared.kind.Kind.{Kind};
+ghost use Rattle.std.specs.Prelude.{◌≡◌, ◌≤◌, ◌⊎◌, [], OnOk, IfErr, OnErr, All, false, length, vec_len};
+ghost use Rattle.std.specs.List.{AllZip};
 ghost use Rattle.row_defs.specs.Limits.{most_rows};
+ghost use Rattle.row_defs.specs.LocalOps.{AreSoundOps};
 ghost use Rattle.script_defs.specs.Runs.{text_of_rows};
+ghost use Rattle.script_defs.specs.Sound.{IsSoundAction};
 ghost use Rattle.dia_edge.specs.Sinks.{TookAll};
-ghost use Rattle.lop_chain.specs.Chains.{chain_ops};
+ghost use Rattle.block_pool.specs.Handles.{HandValue, Follows};
+ghost use Rattle.lop_chain.specs.Rows.{Kinds};
 ghost use Rattle.lop_chain.specs.Ops.{ops_in};
-ghost use Rattle.row_feed.specs.Sinks.{texts_of_rows};
+ghost use Rattle.lop_chain.specs.Operands.{root_in};
 ghost use Rattle.script_read.specs.Statements.{action_in};
-ghost use Rattle.actions.specs.Arriving.{Arrives, IsActable, rows_arriving};
-ghost use Rattle.actions.specs.Acting.{Refuses, TellsWrite};
+ghost use Rattle.scatter.specs.Lines.{HasRoot, root_kinds};
+ghost use Rattle.scatter.specs.Stocks.{lines_of, AreInPools};
+ghost use Rattle.scatter.specs.Phases.{pools_of, IsUsed};
+ghost use Rattle.scatter.specs.Told.{AreTold, HasPermit, arriving};
+ghost use Rattle.stock_actions.specs.Acting.{ActStopped};
 
-use crate::arriving::{chain_of, check_few, size, sum};
-use crate::buffers::Buffers;
-use crate::writing::{print_rows, put_number};
-use dia_edge::{NoMemory, Sink};
-use lop_chain::{Chain, ScriptOp};
-use row_feed::{Source, TooManyRows};
+use crate::print::print;
+use block_pool::Hand;
+use dia_edge::{Disk, Gate, Sink};
+use feed_actions::{ActErr, size, sum};
+use lop_chain::Operand;
+use scatter::{Net, Stock};
 use script_read::Action;
+use std::alloc::Global;
 use std::sync::Wait;
+use std::thread::Threads;
+use text_out::OutBuffer;
+use worker_step::{MOST_TASKS, Way};
 
-/// Why an action wasn't done.
-#[derive(Clone, Copy, Debug, PartialEq, Eq)]
-pub enum ActErr {
-    /// More rows arrive than may; nothing was written.
-    TooManyRows,
-    /// A write failed; some prefix of the action's text was written.
-    Write {
-        /// The sink's count of faults now.
-        count: u64,
-    },
-    /// Memory ran out; nothing was written.
-    NoMemory,
-}
-
-impl From<NoMemory> for ActErr {
-    ghost use Rattle.std.specs.Prelude.{◌≡◌};
-    ghost use Rattle.actions.specs.declared.action.ActErr.TheVariants as variants;
-
-    ghost from_gives = { λ _ e. e ≡ variants.NoMemory };
-
-    fn from(_: NoMemory) -> ActErr {
-        ActErr::NoMemory
-    }
-}
-
-impl From<TooManyRows> for ActErr {
-    ghost use Rattle.std.specs.Prelude.{◌≡◌};
-    ghost use Rattle.actions.specs.declared.action.ActErr.TheVariants as variants;
-
-    ghost from_gives = { λ _ e. e ≡ variants.TooManyRows };
-
-    fn from(_: TooManyRows) -> ActErr {
-        ActErr::TooManyRows
-    }
-}
-
-fn print<R: Wait, S: Sink>(
-    rt: &R,
-    source: &Source<'_>,
-    chain: &mut Chain,
-    buffers: &mut Buffers,
-    out: &mut S,
-) -> Result<(), ActErr>
-    requires rows { (kinds : List Kind) × Arrives (chain_ops chain.old) source.now kinds }
-    requires empty { buffers.old.text ≡ [] }
-    ensures ok { OnOk result (TookAll (S.taken out.old) (texts_of_rows (rows_arriving (chain_ops chain.old) source.now)) (S.taken out.new)) }
-    ensures few { OnOk result (length (rows_arriving (chain_ops chain.old) source.now) ≤ most_rows) }
-    ensures refused { IfErr result (λ e. Refuses (rows_arriving (chain_ops chain.old) source.now)
-        (texts_of_rows (rows_arriving (chain_ops chain.old) source.now)) e (S.taken out.old) (S.taken out.new)) }
-    ensures empty { OnOk result (buffers.new.text ≡ []) }
-    ensures told { IfErr result (λ e. TellsWrite e (S.faults out.old) (S.faults out.new)) }
-    ensures counts { S.faults out.old ≤ S.faults out.new }
-{
-    check_few(rt, source, chain, &mut buffers.row)?;
-    print_rows(rt, source, chain, buffers, out)
-}
-
-/// Does an action on the rows that local lines make of a source's: writes its text.
+/// Does an action: writes its text of the rows that arrive.
 ///
-/// After a refusal the sink took some prefix of the text, and nothing where too many rows arrive or memory ran out, and the
-/// buffers may only be dropped.
-pub fn act<R: Wait, S: Sink>(
+/// `size` and `sum` are one phase over all workers. `print` is done by the calling thread, worker by worker in order of rank,
+/// through the buffer; where it isn't known without reading whether too many rows arrive, all workers count them first.
+///
+/// After `TooManyRows` nothing was written; after another refusal nothing or some prefix of the text, and the buffer may only be
+/// dropped. `Disk` comes only where the disk failed in this call, and `Damaged` never where it tells. On every answer each hand
+/// is there, and the lines are in stock as before with no part lent, but that where this is the last use the root's line is
+/// gone; after a refusal it may be there still.
+pub fn act<'p, R: Threads + Wait + Sync, G: Gate + Sync, D: Disk + Send + Sync, X: Net, S: Sink>(
     rt: &R,
+    alloc: Global,
+    way: &mut Way<'_, G>,
+    stock: &mut Stock<X>,
     action: &Action,
-    source: &Source<'_>,
-    ops: &[ScriptOp],
-    buffers: &mut Buffers,
+    operand: &Operand,
+    last: bool,
+    hands: &mut Vec<Hand<'p, D>>,
+    buffer: &mut OutBuffer,
     out: &mut S,
 ) -> Result<(), ActErr>
-    requires actable { IsActable (action_in action.now) (ops_in ops.now) source.now }
-    requires empty { buffers.old.text ≡ [] }
-    ensures ok { OnOk result (TookAll (S.taken out.old) (text_of_rows (action_in action.now) (rows_arriving (ops_in ops.now) source.now)) (S.taken out.new)) }
-    ensures few { OnOk result (length (rows_arriving (ops_in ops.now) source.now) ≤ most_rows) }
-    ensures refused { IfErr result (λ e. Refuses (rows_arriving (ops_in ops.now) source.now)
-        (text_of_rows (action_in action.now) (rows_arriving (ops_in ops.now) source.now)) e (S.taken out.old) (S.taken out.new)) }
-    ensures empty { OnOk result (buffers.new.text ≡ []) }
-    ensures told { IfErr result (λ e. TellsWrite e (S.faults out.old) (S.faults out.new)) }
+    requires few { vec_len hands.old ≤ MOST_TASKS }
+    requires long { vec_len hands.old ≡ stock.old.workers }
+    requires root { HasRoot (lines_of stock.old) (root_in operand.now.root) }
+    requires own { AreInPools (pools_of hands.old.items) (lines_of stock.old) }
+    requires actable { (to : Kinds) × AreSoundOps (root_kinds (lines_of stock.old) (root_in operand.now.root)) (ops_in operand.now.chain.items) to
+        × IsSoundAction to (action_in action.now) }
+    requires permits { All HasPermit hands.old.items }
+    requires empty { buffer.old ≡ [] }
+
+    ensures text { OnOk result (AreTold (root_in operand.now.root) hands.old.items → TookAll (S.taken out.old)
+        (text_of_rows (action_in action.now) (arriving (lines_of stock.old) (root_in operand.now.root) (ops_in operand.now.chain.items))) (S.taken out.new)) }
+    ensures few { OnOk result (AreTold (root_in operand.now.root) hands.old.items
+        → length (arriving (lines_of stock.old) (root_in operand.now.root) (ops_in operand.now.chain.items)) ≤ most_rows) }
+    ensures permits { OnOk result (AllZip (λ (a b : HandValue). b.permits ≡ a.permits) hands.old.items hands.new.items) }
+    ensures empty { OnOk result (buffer.new ≡ []) }
+    ensures refused { IfErr result (ActStopped S.Sink (lines_of stock.old) (root_in operand.now.root) (ops_in operand.now.chain.items)
+        (text_of_rows (action_in action.now)) hands.old.items hands.new.items out.old out.new) }
+    ensures lines { OnOk result (IsUsed (lines_of stock.old) (root_in operand.now.root) last (lines_of stock.new)) }
+    ensures left { OnErr result (IsUsed (lines_of stock.old) (root_in operand.now.root) last (lines_of stock.new)
+        ⊎ IsUsed (lines_of stock.old) (root_in operand.now.root) false (lines_of stock.new)) }
+
+    // On every answer.
     ensures counts { S.faults out.old ≤ S.faults out.new }
+    ensures follows { AllZip Follows hands.old.items hands.new.items }
+    ensures net { stock.new.net ≡ stock.old.net }
+    ensures workers { stock.new.workers ≡ stock.old.workers }
 {
     match action {
-        Action::Print { .. } => {
-            let mut chain = chain_of(buffers.alloc, ops)?;
-            print(rt, source, &mut chain, buffers, out)
-        }
-        Action::Size { .. } => {
-            let rows = size(rt, source, ops, buffers)?;
-            put_number(rows, out)
-        }
+        Action::Print { .. } => print(rt, alloc, way, stock, operand, last, hands, buffer, out),
+        Action::Size { .. } => size(rt, alloc, way, stock, operand, last, hands, out),
         Action::Sum { column, .. } => {
-            let mut chain = chain_of(buffers.alloc, ops)?;
-            let sum = sum(rt, source, &mut chain, &mut buffers.row, *column)?;
-            put_number(sum, out)
+            sum(rt, alloc, way, stock, operand, last, *column, hands, out)
         }
     }
 }

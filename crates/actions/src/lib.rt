@@ -1,13 +1,15 @@
-//! Actions: what `print`, `size` and `sum` write of the rows that arrive.
+//! Actions: what `print`, `size` and `sum` write of the rows that arrive, over all workers.
 //!
 //! The layer above relies on `act`: it writes exactly the action's text, or says why not, and what the sink took then. The
-//! words stand in `specs/`: Arriving, Acting.
+//! words stand in `specs/`: Printing, Acting.
 #![tactic(auto)]
 
 mod action;
-mod arriving;
-mod buffers;
-mod writing;
+mod checking;
+mod feeds;
+mod print;
+#[cfg(test)]
+mod tests;
 
-pub use action::{ActErr, act};
-pub use buffers::Buffers;
+pub use action::act;
+pub use feed_actions::ActErr;

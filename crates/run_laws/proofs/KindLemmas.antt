@@ -1,10 +1,10 @@
 -- The kinds that are known of a line stay known behind the whole script.
-use Rattle.std.proofs.Common.{◌≡◌, ℕ, ◌+◌, ◌<◌, ◌≤◌, true, false, cond, eqb, leb, List, [], ◌∷◌, ◌++◌, Option, None, Some, IsSome, find, refl, sym, ap, ◌∙◌, subst, arith}
+use Rattle.std.proofs.Common.{◌≡◌, ℕ, ◌+◌, ◌<◌, ◌≤◌, true, false, cond, eqb, leb, List, [], ◌∷◌, ◌++◌, map, Option, None, Some, IsSome, find, refl, sym, ap, ◌∙◌, subst, arith}
 use Rattle.std.specs.List.{AllByRecursion}
 use Rattle.std.proofs.lemmas.Bool.{true≢false, eq-eqb, eqb-true, ne_eqb, leb-true, leb-false}
 use Rattle.row_defs.specs.declared.kind.Kind.{Kind}
 use Rattle.row_defs.specs.LocalOps.{IsSoundOp, op_kinds}
-use Rattle.script_defs.specs.Scripts.{Form, lines_form, generate_form, local_form, Action, action_operand, Statement, line, act, Numbered, Script, statement_at, IsLineIn}
+use Rattle.script_defs.specs.Scripts.{Form, lines_form, generate_form, local_form, cache_form, form_operands, form_kinds, Action, action_operand, Statement, line, act, Numbered, Script, statement_at, IsLineIn}
 use Rattle.script_defs.specs.Reading.{Earlier, Known, known_after, nothing_known}
 use Rattle.script_defs.specs.Sound.{earlier_numbered, kinds_of_earlier, kinds_numbered, kinds_of_form, kinds_of_statement, IsSound, IsSoundAction, IsSoundForm, IsSoundStatement}
 use Rattle.script_defs.specs.Plans.{known_behind, kinds_at}
@@ -75,6 +75,7 @@ abbrev pub IsFormIn : Script → Known → ℕ → Form → Type 0
 IsFormIn script known n (lines_form input) = Unit {0}
 IsFormIn script known n (generate_form count) = Unit {0}
 IsFormIn script known n (local_form of op) = (of < n) × IsLineIn script of × IsSoundOp (kinds_numbered known of) op
+IsFormIn script known n (cache_form of) = (of < n) × IsLineIn script of
 
 pub record IsLineSound (script : Script) (known : Known) (n : ℕ) (form : Form) : Type 0 where
   pub kinds : kinds_numbered known n ≡ kinds_of_form known form
@@ -142,6 +143,9 @@ form_in_later script known later n m (local_form of op) h low same sound =
     let Sound : List Kind → Type 0 = λ ks. IsSoundOp ks op in
     let less = less_than known n of h.new sound.0 in
     ((omega (arith, less, low), h.is_in of sound.0, subst Sound (sym kinds) sound.1), ap (λ (ks : List Kind). op_kinds ks op) (sym kinds))
+form_in_later script known later n m (cache_form of) h low same sound =
+    let less = less_than known n of h.new sound in
+    ((omega (arith, less, low), h.is_in of sound), sym (same of sound))
 
 line_here : (script : Script) (known : Known) (n m : ℕ) (s : Statement) (name : List ℕ) (form : Form) (later : Script) → IsBelow script known n → n ≤ m
     → IsSoundStatement known s → s ≡ line name form → IsLineSound script (known_behind (known_after known m s (kinds_of_statement known s)) later) m form
@@ -182,6 +186,11 @@ pub line_sound : (script : Script) (m : ℕ) (name : List ℕ) (form : Form) →
 line_sound script m name form sound is =
     line_at script nothing_known 1 script m name form sound (sound_placed script sound)
     (record { new = λ k high. refl; is_in = λ k some. absurd (true≢false (sym some)) }) is
+
+-- the kinds of a line's rows come from those of the lines that it names
+pub line_kinds : (script : Script) (n : ℕ) (name : List ℕ) (form : Form) → IsSound nothing_known 1 script → statement_at script n ≡ Some (line name form)
+    → kinds_at script n ≡ form_kinds (map (kinds_at script) (form_operands form)) form
+line_kinds script n name form sound is = (line_sound script n name form sound is).kinds
 
 -- the line of an action
 pub action_line : (script : Script) (m : ℕ) (action : Action) → IsSound nothing_known 1 script → statement_at script m ≡ Some (act action) → IsLineIn script (action_operand action)

@@ -7,9 +7,9 @@ use Rattle.std.proofs.lemmas.List.Concat.{flat_map-append}
 use Rattle.std.proofs.lemmas.List.Elements.{All-from_recursion}
 use Rattle.row_defs.specs.Rows.{Row}
 use Rattle.row_defs.specs.LocalOps.{LocalOp, rows_made, rows_through}
-use Rattle.script_defs.specs.Scripts.{Form, lines_form, generate_form, local_form, form_operands, Action, action_operand, print_action, size_action, sum_action, Statement, line, act, Script, statement_at}
+use Rattle.script_defs.specs.Scripts.{Form, lines_form, generate_form, local_form, cache_form, form_operands, Action, action_operand, print_action, size_action, sum_action, Statement, line, act, Script, statement_at}
 use Rattle.row_defs.specs.Inputs.{Inputs}
-use Rattle.script_defs.specs.Lists.{Lists, IsLine, failure_of_form, failure_of_action}
+use Rattle.script_defs.specs.Lists.{Lists, IsLine, too_many_in, failure_of_form, failure_of_action}
 use Rattle.script_defs.specs.Work.{Item, do_line, do_action, has_number, work_of}
 use Rattle.script_defs.specs.Runs.{IsRight, IsRightStatement, failure_of, failure_of_statement, IsRun, action_text, item_text, statement_text, run_texts}
 use Rattle.run_laws.specs.Order.{lines_among, IsReadyLine, IsReadyAction, IsReady, AreInOrder, InWork}
@@ -83,6 +83,7 @@ line_grows : (inputs : Inputs) (lists more : Lists) (form : Form) (rows : List R
 line_grows inputs lists more (lines_form input) rows g h = h
 line_grows inputs lists more (generate_form count) rows g h = h
 line_grows inputs lists more (local_form of op) rows g h = (h.0, g of (some_there (lists of) h.0 h.1) ∙ h.1, h.2)
+line_grows inputs lists more (cache_form of) rows g h = g of (some_there (lists of) rows h) ∙ h
 
 right_grows : (script : Script) (inputs : Inputs) (lists more : Lists) (item : Item) → Grows lists more → IsRight script inputs lists item → IsRight script inputs more item
 right_grows script inputs lists more (do_action n) g h = tt
@@ -98,6 +99,14 @@ same_operand : (script : Script) (inputs : Inputs) (lists more : Lists) (done : 
     → (r : IsReadyAction script done n) → more (action_operand r.action) ≡ lists (action_operand r.action)
 same_operand script inputs lists more done n g listed r = g (action_operand r.action) (listed (action_operand r.action) ∙ r.operand)
 
+-- so do the lines that a line names that can be done, and what blocks it stays
+same_failure : (inputs : Inputs) (lists more : Lists) (done : List ℕ) (form : Form) → Grows lists more → ((l : ℕ) → is_some (lists l) ≡ has_number done l)
+    → AllByRecursion (λ of. has_number done of ≡ true) (form_operands form) → failure_of_form inputs more form ≡ failure_of_form inputs lists form
+same_failure inputs lists more done (lines_form input) g listed all = refl
+same_failure inputs lists more done (generate_form count) g listed all = refl
+same_failure inputs lists more done (local_form of op) g listed all = refl
+same_failure inputs lists more done (cache_form of) g listed all = ap too_many_in (g of (listed of ∙ all.0))
+
 same_text : (lists more : Lists) (action : Action) → more (action_operand action) ≡ lists (action_operand action) → action_text more action ≡ action_text lists action
 same_text lists more (print_action of) e = rw e refl
 same_text lists more (size_action of) e = rw e refl
@@ -106,7 +115,7 @@ same_text lists more (sum_action of c) e = rw e refl
 item_grows : (script : Script) (inputs : Inputs) (lists more : Lists) (done : List ℕ) → Grows lists more → ((l : ℕ) → is_some (lists l) ≡ has_number done l)
     → (item : Item) → IsReady script done item
     → (failure_of script inputs more item ≡ failure_of script inputs lists item) × (item_text script more item ≡ item_text script lists item)
-item_grows script inputs lists more done g listed (do_line n) r = rw r.is (refl, refl)
+item_grows script inputs lists more done g listed (do_line n) r = rw r.is (same_failure inputs lists more done r.form g listed r.operands, refl)
 item_grows script inputs lists more done g listed (do_action n) r =
     let same = same_operand script inputs lists more done n g listed r in
     rw r.is (rw same refl, same_text lists more r.action same)
@@ -151,7 +160,7 @@ listed_more lists done n rows listed l = elim (eqb l n) as (λ t. eqb l n ≡ t 
 
 pub line_goes_on : (script : Script) (inputs : Inputs) (lists : Lists) (done left : List Item) (n : ℕ) (name : List ℕ) (form : Form) (rows : List Row)
     → InWork script done (do_line n ∷ left) → IsRunOf script inputs lists done → statement_at script n ≡ Some (line name form)
-    → IsLine inputs lists form rows → failure_of_form inputs form ≡ None
+    → IsLine inputs lists form rows → failure_of_form inputs lists form ≡ None
     → IsRunOf script inputs (with_list lists n rows) (done ++ do_line n ∷ [])
     × (texts_among script (with_list lists n rows) (done ++ do_line n ∷ []) ≡ texts_among script lists done)
 line_goes_on script inputs lists done left n name form rows w run is made free =
@@ -166,7 +175,7 @@ line_goes_on script inputs lists done left n name form rows w run is made free =
             (subst Right (sym is) (rows, here, line_grows inputs lists more form rows grows made));
         free = every_push (λ item. failure_of script inputs more item ≡ None) done (do_line n)
             (free_grows script inputs lists more (lines_among done) grows run.listed done w.ready run.free)
-            (ap (failure_of_statement inputs more) is ∙ free);
+            ((item_grows script inputs lists more (lines_among done) grows run.listed (do_line n) w.order.0).0 ∙ ap (failure_of_statement inputs lists) is ∙ free);
       },
       flat_map-append (item_text script more) done (do_line n ∷ []) ∙ append-nil (texts_among script more done)
           ∙ texts_grow script inputs lists more (lines_among done) grows run.listed done w.ready,

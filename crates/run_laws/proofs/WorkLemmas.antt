@@ -5,7 +5,7 @@ use Rattle.std.proofs.lemmas.Bool.{or_left, or_right, true≢false, eqb-true, eq
 use Rattle.std.proofs.lemmas.List.{map-append}
 use Rattle.std.proofs.lemmas.List.Folds.{list_any-append}
 use Rattle.row_defs.specs.declared.kind.Kind.{Kind}
-use Rattle.script_defs.specs.Scripts.{Form, lines_form, generate_form, local_form, form_operands, Action, action_operand, Statement, line, act, operands_of, Numbered, Script, statement_at}
+use Rattle.script_defs.specs.Scripts.{Form, lines_form, generate_form, local_form, cache_form, form_operands, Action, action_operand, Statement, line, act, operands_of, Numbered, Script, statement_at}
 use Rattle.script_defs.specs.Reading.{Earlier, Known, known_after, nothing_known}
 use Rattle.script_defs.specs.Sound.{IsSound, IsSoundStatement, IsSoundForm, kinds_of_statement}
 use Rattle.script_defs.specs.Work.{Item, do_line, do_action, has_number, closure, is_line, lines_to_do, work_from, work_of}
@@ -80,6 +80,7 @@ form_named : (known : Known) (form : Form) → IsSoundForm known form → AllByR
 form_named known (lines_form input) h = tt
 form_named known (generate_form count) h = tt
 form_named known (local_form of op) h = (earlier_has known.lines of h.0, tt)
+form_named known (cache_form of) h = (earlier_has known.lines of h, tt)
 
 statement_named : (known : Known) (s : Statement) → IsSoundStatement known s → AllByRecursion (λ of. has_number (numbers_in known.lines) of ≡ true) (operands_of s)
 statement_named known (line name form) h = form_named known form h

@@ -33,7 +33,7 @@ abbrev pub LineGoesOn : Type 0
 LineGoesOn =
     (script : Script) (inputs : Inputs) (lists : Lists) (done left : List Item) (n : ℕ) (name : List ℕ) (form : Form) (rows : List Row)
     → InWork script done (do_line n ∷ left) → IsRunOf script inputs lists done → statement_at script n ≡ Some (line name form)
-    → IsLine inputs lists form rows → failure_of_form inputs form ≡ None
+    → IsLine inputs lists form rows → failure_of_form inputs lists form ≡ None
     → IsRunOf script inputs (with_list lists n rows) (done ++ do_line n ∷ [])
     × (texts_among script (with_list lists n rows) (done ++ do_line n ∷ []) ≡ texts_among script lists done)
 

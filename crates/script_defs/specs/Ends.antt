@@ -3,7 +3,7 @@ use Rattle.std.specs.Prelude.{◌≡◌, ℕ, List, ◌∷◌, ◌++◌, length,
 use Rattle.row_defs.specs.Inputs.{Inputs, InputFailure}
 use Rattle.script_defs.specs.Scripts.{lines_form, line, Script, statement_at}
 use Rattle.script_defs.specs.Lists.{Lists, input_failure, too_many_rows}
-use Rattle.script_defs.specs.Work.{Item, do_line, do_action, work_of}
+use Rattle.script_defs.specs.Work.{Item, do_line, number_of, work_of}
 use Rattle.script_defs.specs.Runs.{IsRun, failure_of, run_texts}
 
 -- each of the lines among the first n items of the work has one list, a result of its definition on the lists that it
@@ -24,13 +24,15 @@ pub record IsStopped (script : Script) (inputs : Inputs) (name : List ℕ) (caus
   pub is : statement_at script next ≡ Some (line defined (lines_form name))
   pub fails : failure_of script inputs done.lists (do_line next) ≡ Some (input_failure cause)
 
--- the same, and the next item is the action on this line, at which more rows arrive than may
+-- the same, and the next item is the line or the action with this number, at which more rows arrive than may
 pub record IsTooMany (script : Script) (inputs : Inputs) (n : ℕ) (took : List ℕ) : Type 0 where
   pub count : ℕ
   pub done : IsDone script inputs count took
+  pub item : Item
   pub left : List Item
-  pub work : drop count (work_of script) ≡ do_action n ∷ left
-  pub fails : failure_of script inputs done.lists (do_action n) ≡ Some too_many_rows
+  pub work : drop count (work_of script) ≡ item ∷ left
+  pub number : number_of item ≡ n
+  pub fails : failure_of script inputs done.lists item ≡ Some too_many_rows
 
 -- these bytes are a prefix of the texts of some first items
 pub record IsCutOff (script : Script) (inputs : Inputs) (took : List ℕ) : Type 0 where

@@ -1,7 +1,7 @@
 -- Which inputs a script needs.
 use Rattle.std.specs.Prelude.{ℕ, List, [], ◌∷◌, Option, None, Some}
 use Rattle.std.specs.List.{flat_map}
-use Rattle.script_defs.specs.Scripts.{Form, lines_form, generate_form, local_form, Statement, line, act, Script, statement_at}
+use Rattle.script_defs.specs.Scripts.{Form, lines_form, generate_form, local_form, cache_form, Statement, line, act, Script, statement_at}
 use Rattle.script_defs.specs.Work.{Item, do_line, do_action, work_of}
 use Rattle.script_defs.specs.Plans.{Stage}
 
@@ -10,6 +10,7 @@ abbrev pub read_by_form : Form → List (List ℕ)
 read_by_form (lines_form input) = input ∷ []
 read_by_form (generate_form count) = []
 read_by_form (local_form of op) = []
+read_by_form (cache_form of) = []
 
 abbrev pub read_by : Statement → List (List ℕ)
 read_by (line name form) = read_by_form form

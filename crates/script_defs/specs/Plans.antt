@@ -1,12 +1,12 @@
 -- The plan of a script: its stages in the order of work. A stage is an action, or a needed line whose rows are kept.
-use Rattle.std.specs.Prelude.{◌≡◌, ℕ, Bool, true, false, not, List, [], ◌∷◌, map, filter, Option, None, Some}
+use Rattle.std.specs.Prelude.{◌≡◌, ℕ, Bool, true, false, not, List, [], ◌∷◌, map, filter, Option, Some}
 use Rattle.std.specs.List.{AllByRecursion, flat_map, list_any, count_by}
 use Rattle.row_defs.specs.declared.kind.Kind.{Kind}
 use Rattle.row_defs.specs.LocalOps.{LocalOp, map_op, filter_op, words_op, spread_op, AreSoundOps}
 use Rattle.row_defs.specs.Operands.{Root, stored_root, count_root, Operand, root_line, is_stored_at}
 use Rattle.script_defs.specs.declared.word.Word.{Word}
-use Rattle.script_defs.specs.declared.word.Word.TheVariants.{Lines, Generate, Map, Filter, FlatMap, Print, Size, Sum}
-use Rattle.script_defs.specs.Scripts.{Form, lines_form, generate_form, local_form, Origin, stored, counted, made, origin_of, form_kinds, Action, print_action, size_action, sum_action, Statement, line, act, operands_of, Script, statement_at}
+use Rattle.script_defs.specs.declared.word.Word.TheVariants.{Lines, Generate, Map, Filter, FlatMap, Cache, Print, Size, Sum}
+use Rattle.script_defs.specs.Scripts.{Form, lines_form, generate_form, local_form, cache_form, Origin, stored, counted, made, origin_of, Action, print_action, size_action, sum_action, Statement, line, act, operands_of, Script, statement_at}
 use Rattle.script_defs.specs.Reading.{Known, known_after, nothing_known}
 use Rattle.script_defs.specs.Sound.{kinds_numbered, kinds_of_statement}
 use Rattle.script_defs.specs.Work.{Item, do_line, do_action, work_of}
@@ -22,6 +22,7 @@ abbrev pub word_of_form : Form → Word
 word_of_form (lines_form input) = Lines
 word_of_form (generate_form count) = Generate
 word_of_form (local_form of op) = word_of_op op
+word_of_form (cache_form of) = Cache
 
 abbrev pub word_of_action : Action → Word
 word_of_action (print_action of) = Print
@@ -59,7 +60,7 @@ pub record IsOperand (script : Script) (n : ℕ) (o : Operand) : Type 0 where
   pub root : IsRootOf form o.root
   pub chain : IsChain script (root_line o.root) o.chain n
   pub kinds : o.kinds ≡ kinds_at script n
-  pub sound : AreSoundOps (form_kinds [] form) o.chain o.kinds
+  pub sound : AreSoundOps (kinds_at script (root_line o.root)) o.chain o.kinds
 
 abbrev pub AreOperands : Script → List ℕ → List Operand → Type 0
 AreOperands script [] [] = Unit {0}

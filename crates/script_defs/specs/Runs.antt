@@ -18,7 +18,7 @@ IsRight script inputs lists (do_line n) = IsRightStatement inputs lists n (state
 IsRight script inputs lists (do_action n) = Unit {0}
 
 abbrev pub failure_of_statement : Inputs → Lists → Option Statement → Option Failure
-failure_of_statement inputs lists (Some (line name form)) = failure_of_form inputs form
+failure_of_statement inputs lists (Some (line name form)) = failure_of_form inputs lists form
 failure_of_statement inputs lists (Some (act action)) = failure_of_action lists action
 failure_of_statement inputs lists None = None
 

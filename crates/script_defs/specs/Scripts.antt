@@ -9,6 +9,7 @@ pub data Form : Type 0 where
   lines_form : List ℕ → Form  -- an input's lines, by the input's name
   generate_form : ℕ → Form  -- the numbers below this one
   local_form : ℕ → LocalOp → Form  -- the rows that a local line makes of an earlier line's
+  cache_form : ℕ → Form  -- the list of an earlier line, done once and kept
 
 pub data Action : Type 0 where
   print_action : ℕ → Action
@@ -47,12 +48,14 @@ abbrev pub origin_of : Form → Origin
 origin_of (lines_form input) = stored
 origin_of (generate_form count) = counted count
 origin_of (local_form of op) = made of op
+origin_of (cache_form of) = stored
 
 -- the lines that a statement names
 abbrev pub form_operands : Form → List ℕ
 form_operands (lines_form input) = []
 form_operands (generate_form count) = []
 form_operands (local_form of op) = of ∷ []
+form_operands (cache_form of) = of ∷ []
 
 abbrev pub action_operand : Action → ℕ
 action_operand (print_action of) = of
@@ -73,6 +76,7 @@ abbrev pub form_kinds : List (List Kind) → Form → List Kind
 form_kinds operands (lines_form input) = Text ∷ []
 form_kinds operands (generate_form count) = Int ∷ []
 form_kinds operands (local_form of op) = op_kinds (first_kinds operands) op
+form_kinds operands (cache_form of) = first_kinds operands
 
 -- an action has no rows
 abbrev pub statement_kinds : List (List Kind) → Statement → List Kind

@@ -1,9 +1,9 @@
 -- What stands behind each word of the language: one row a word.
-use Rattle.std.specs.Prelude.{ℕ, true, false, Option, None, Some}
+use Rattle.std.specs.Prelude.{true, false, Option, None, Some}
 use Rattle.row_defs.specs.declared.kind.Kind.TheVariants.{Int, Text}
 use Rattle.row_defs.specs.LocalOps.{most_spread}
 use Rattle.script_defs.specs.declared.word.Word.{Word}
-use Rattle.script_defs.specs.declared.word.Word.TheVariants.{Lines, Generate, Map, Filter, FlatMap, Print, Size, Sum}
+use Rattle.script_defs.specs.declared.word.Word.TheVariants.{Lines, Generate, Map, Filter, FlatMap, Cache, Print, Size, Sum}
 use Rattle.script_defs.specs.declared.word.Selector.{Selector}
 use Rattle.script_defs.specs.declared.word.Selector.TheVariants.{Words, Spread}
 use Rattle.script_defs.specs.declared.shape.Shape.{Shape}
@@ -31,6 +31,10 @@ one_name = record { from = 0; most = 1 }
 abbrev pub local_shape : Shape
 local_shape = record line_shape { least = 2; most = None; names = one_name }
 
+-- a line of one word, which names an earlier line
+abbrev pub cache_shape : Shape
+cache_shape = record line_shape { names = one_name }
+
 -- an action on the line that its one word names
 abbrev pub action_shape : Shape
 action_shape = record line_shape { defines = false; names = one_name }
@@ -49,6 +53,7 @@ shape_of FlatMap (Some Spread) = record local_shape {
   column = Some (record { place = 2; kind = Int });
   number = Some (record { place = 3; least = 1; most = most_spread });
 }
+shape_of Cache s = cache_shape
 shape_of Print s = action_shape
 shape_of Size s = action_shape
 shape_of Sum s = record action_shape { least = 2; most = Some 2; column = Some (record { place = 1; kind = Int }) }

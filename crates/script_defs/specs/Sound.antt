@@ -4,7 +4,7 @@ use Rattle.row_defs.specs.declared.kind.Kind.{Kind}
 use Rattle.row_defs.specs.declared.kind.Kind.TheVariants.{Int}
 use Rattle.row_defs.specs.LocalOps.{IsSoundOp}
 use Rattle.script_defs.specs.Limits.{most_numbers}
-use Rattle.script_defs.specs.Scripts.{Form, lines_form, generate_form, local_form, Action, print_action, size_action, sum_action, action_operand, Statement, line, act, Script, form_operands, operands_of, form_kinds, statement_kinds}
+use Rattle.script_defs.specs.Scripts.{Form, lines_form, generate_form, local_form, cache_form, Action, print_action, size_action, sum_action, action_operand, Statement, line, act, Script, form_operands, operands_of, form_kinds, statement_kinds}
 use Rattle.script_defs.specs.Reading.{Earlier, Known, known_after}
 
 -- the earlier line with this number
@@ -30,6 +30,7 @@ abbrev pub IsSoundForm : Known → Form → Type 0
 IsSoundForm known (lines_form input) = Unit {0}
 IsSoundForm known (generate_form count) = count ≤ most_numbers
 IsSoundForm known (local_form of op) = IsSome (earlier_numbered known of) × IsSoundOp (kinds_numbered known of) op
+IsSoundForm known (cache_form of) = IsSome (earlier_numbered known of)
 
 -- an action on rows of these kinds
 abbrev pub IsSoundAction : List Kind → Action → Type 0

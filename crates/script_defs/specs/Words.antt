@@ -2,7 +2,7 @@
 use Rattle.std.specs.Prelude.{ℕ, List, [], ◌∷◌, Option, find, codes}
 use Rattle.std.specs.Str.{bytes_eq}
 use Rattle.script_defs.specs.declared.word.Word.{Word}
-use Rattle.script_defs.specs.declared.word.Word.TheVariants.{Lines, Generate, Map, Filter, FlatMap, Print, Size, Sum}
+use Rattle.script_defs.specs.declared.word.Word.TheVariants.{Lines, Generate, Map, Filter, FlatMap, Cache, Print, Size, Sum}
 use Rattle.script_defs.specs.declared.word.Selector.{Selector}
 use Rattle.script_defs.specs.declared.word.Selector.TheVariants.{Words, Spread}
 
@@ -12,12 +12,13 @@ spelled Generate = codes "generate"
 spelled Map = codes "map"
 spelled Filter = codes "filter"
 spelled FlatMap = codes "flatmap"
+spelled Cache = codes "cache"
 spelled Print = codes "print"
 spelled Size = codes "size"
 spelled Sum = codes "sum"
 
 abbrev pub all_words : List Word
-all_words = Lines ∷ Generate ∷ Map ∷ Filter ∷ FlatMap ∷ Print ∷ Size ∷ Sum ∷ []
+all_words = Lines ∷ Generate ∷ Map ∷ Filter ∷ FlatMap ∷ Cache ∷ Print ∷ Size ∷ Sum ∷ []
 
 -- the word that is spelled so
 abbrev pub word_spelled : List ℕ → Option Word

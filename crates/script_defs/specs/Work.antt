@@ -8,6 +8,10 @@ pub data Item : Type 0 where
   do_line : ℕ → Item
   do_action : ℕ → Item
 
+abbrev pub number_of : Item → ℕ
+number_of (do_line n) = n
+number_of (do_action n) = n
+
 abbrev pub has_number : List ℕ → ℕ → Bool
 has_number numbers n = list_any (λ m. m == n) numbers
 

@@ -139,6 +139,10 @@ pub fn shape_of(word: Word, selector: Option<Selector>) -> Shape
                 ..local
             },
         },
+        Word::Cache => Shape {
+            names: Names { from: 0, most: 1 },
+            ..line
+        },
         Word::Print | Word::Size => action,
         Word::Sum => Shape {
             least: 2,

@@ -15,6 +15,8 @@ pub enum Word {
     Filter,
     /// `x = flatmap a words C` and `x = flatmap a spread C K`.
     FlatMap,
+    /// `x = cache a`.
+    Cache,
     /// `print a`.
     Print,
     /// `size a`.
@@ -23,12 +25,13 @@ pub enum Word {
     Sum,
 }
 
-const WORDS: [Word; 8] = [
+const WORDS: [Word; 9] = [
     Word::Lines,
     Word::Generate,
     Word::Map,
     Word::Filter,
     Word::FlatMap,
+    Word::Cache,
     Word::Print,
     Word::Size,
     Word::Sum,
@@ -45,6 +48,7 @@ impl Word {
             Word::Map => b"map",
             Word::Filter => b"filter",
             Word::FlatMap => b"flatmap",
+            Word::Cache => b"cache",
             Word::Print => b"print",
             Word::Size => b"size",
             Word::Sum => b"sum",

@@ -1,11 +1,10 @@
 -- What follows where no cause applies to a line.
-use Rattle.std.proofs.Common.{◌≡◌, ℕ, ◌<◌, ◌≤◌, Bool, true, false, ◌||◌, not, cond, leb, List, [], ◌∷◌, length, drop, Option, None, Some, is_none, IsSome, unwrap_or, slice_get, refl, sym, ◌∙◌, subst, arith, length-drop}
+use Rattle.std.proofs.Common.{◌≡◌, ℕ, ◌<◌, ◌≤◌, Bool, true, false, not, cond, leb, List, [], ◌∷◌, length, drop, Option, None, Some, is_none, IsSome, unwrap_or, slice_get, refl, sym, arith, length-drop}
 use Rattle.std.specs.List.{list_all, list_any}
 use Rattle.std.proofs.lemmas.Bool.{or_parts, and_parts, true≢false, leb-true, not-false}
 use Rattle.std.proofs.lemmas.Option.{slice_get-get_or}
 use Rattle.row_defs.specs.declared.kind.Kind.{Kind}
 use Rattle.row_defs.specs.declared.kind.Kind.TheVariants.{Int, Text}
-use Rattle.row_defs.specs.declared.cause.Cause.{Cause}
 use Rattle.row_defs.specs.declared.cause.Cause.TheVariants.{BadForm, UnknownWord, BadNumber}
 use Rattle.row_defs.specs.Texts.{number_spelled, number_or_0}
 use Rattle.row_defs.specs.Values.{Expr, is_int, is_text, expr_kind}

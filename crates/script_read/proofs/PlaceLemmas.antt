@@ -1,5 +1,5 @@
 -- Words from a place on, and at most so many of them.
-use Rattle.std.proofs.Common.{◌≡◌, ℕ, ◌-◌, ◌≤◌, List, [], length, take, drop, map, refl, sym, ap, ◌∙◌, subst, arith, ◌++◌, append-nil}
+use Rattle.std.proofs.Common.{◌≡◌, ℕ, ◌-◌, ◌≤◌, List, [], length, take, drop, map, sym, ap, ◌∙◌, subst, arith, ◌++◌, append-nil}
 use Rattle.std.proofs.Math.Seq.{take-length}
 use Rattle.std.proofs.Math.ListN.{drop_of_length-le}
 use Rattle.std.proofs.lemmas.List.{length-drop, length-map, drop-map, take-map, take-append-drop}

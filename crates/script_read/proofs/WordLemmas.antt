@@ -1,7 +1,7 @@
 -- A statement without a cause is sound, word by word.
 use Rattle.std.proofs.Common.{◌≡◌, ℕ, ◌<◌, ◌≤◌, Bool, true, false, ◌||◌, leb, List, [], ◌∷◌, length, take, drop, Option, None, Some, is_none, IsSome, slice_get, unwrap_or, refl, sym, ap, ◌∙◌, subst, arith}
 use Rattle.std.specs.List.{list_any, filter_map}
-use Rattle.std.proofs.lemmas.Bool.{or_parts, and_parts, true≢false, false≢true, leb-true, not-false}
+use Rattle.std.proofs.lemmas.Bool.{or_parts, and_parts, true≢false, leb-true, not-false}
 use Rattle.row_defs.specs.declared.kind.Kind.{Kind}
 use Rattle.row_defs.specs.declared.kind.Kind.TheVariants.{Int, Text}
 use Rattle.row_defs.specs.Expressions.{list_fault}
@@ -9,7 +9,7 @@ use Rattle.row_defs.specs.Limits.{most_columns}
 use Rattle.row_defs.specs.Values.{Expr, expr_kind}
 use Rattle.row_defs.specs.LocalOps.{LocalOp, map_op, filter_op, words_op, spread_op, HaveKinds, IsSoundOp, op_kinds, most_spread}
 use Rattle.script_defs.specs.declared.word.Word.{Word}
-use Rattle.script_defs.specs.declared.word.Word.TheVariants.{Lines, Generate, Map, Filter, FlatMap, Print, Size, Sum}
+use Rattle.script_defs.specs.declared.word.Word.TheVariants.{Lines, Generate, Map, Filter, FlatMap, Cache, Print, Size, Sum}
 use Rattle.script_defs.specs.declared.word.Selector.{Selector}
 use Rattle.script_defs.specs.declared.word.Selector.TheVariants.{Words, Spread}
 use Rattle.script_defs.specs.declared.shape.ColumnPlace.{ColumnPlace}
@@ -18,10 +18,10 @@ use Rattle.script_defs.specs.declared.shape.NumberPlace.{NumberPlace}
 use Rattle.script_defs.specs.declared.shape.Shape.{Shape}
 use Rattle.script_defs.specs.Limits.{most_numbers}
 use Rattle.script_defs.specs.Shapes.{shape_of}
-use Rattle.script_defs.specs.Scripts.{Form, local_form, form_kinds, Action, print_action, size_action, sum_action, action_operand, Statement, line, act, first_kinds}
+use Rattle.script_defs.specs.Scripts.{Form, local_form, cache_form, form_kinds, Action, print_action, size_action, sum_action, action_operand, Statement, line, act, first_kinds}
 use Rattle.script_defs.specs.Stating.{first_operand, first_expr, op_selected, statement_of}
-use Rattle.script_defs.specs.Reading.{Earlier, Known, Sentence, first_cause, tests_of, said_of, earlier_named, selector_in, shape_in, operands_in, operand_words, operand_kinds, kinds_among, numbers_among, number_word, column_word, exprs_in, exprs_fault, value_in, said_in, statement_in, kinds_of_line, fits_count, fits_most, is_bad_form, is_unknown_word, is_bad_number, is_outside, is_no_number, is_other_kind, is_one_int, have_no_kinds, has_bad_kind, has_bad_number}
-use Rattle.script_defs.specs.Sound.{earlier_numbered, kinds_of_earlier, kinds_numbered, kinds_of_statement, IsSoundAction, IsSoundStatement}
+use Rattle.script_defs.specs.Reading.{Earlier, Known, Sentence, first_cause, tests_of, said_of, earlier_named, selector_in, shape_in, operands_in, operand_kinds, kinds_among, numbers_among, number_word, column_word, exprs_in, value_in, statement_in, kinds_of_line, is_unknown_word, is_bad_number, is_outside, is_no_number, is_other_kind, is_one_int, have_no_kinds, has_bad_kind}
+use Rattle.script_defs.specs.Sound.{earlier_numbered, kinds_of_earlier, kinds_of_statement, IsSoundAction, IsSoundStatement}
 use Rattle.script_read.specs.Accepting.{IsAccepted, IsStatable, CanTell, CanTellStatement}
 use Rattle.script_read.proofs.Counting.{length-filter_map}
 use Rattle.script_read.proofs.FindingLemmas.{IsNumbered}
@@ -98,6 +98,18 @@ told_action known operands action names h sound = record {
 
 some_kinds : (known : Known) (operands : List Earlier) → IsOperand known operands → 0 < length (kinds_among operands)
 some_kinds known operands h = let Some_kinds : List Earlier → Type 0 = λ es. 0 < length (kinds_among es) in subst Some_kinds (sym h.is) (omega arith)
+
+told_cached : (known : Known) (name : List ℕ) (operands : List Earlier) → IsOperand known operands
+    → IsTold known operands (line name (cache_form (first_operand (numbers_among operands)))) (first_kinds (kinds_among operands))
+told_cached known name operands h = record {
+  stated = λ n numbered few.
+      let Told : List Earlier → Type 0 = λ es. IsSoundStated known (line name (cache_form (first_operand (numbers_among es)))) (first_kinds (kinds_among es)) in
+      let found = numbered.again h.name h.one h.named in
+      let Is : Option Earlier → Type 0 = λ o. IsSome o in
+      let at_one : Told (h.one ∷ []) = record { sound = subst Is (sym found) refl; result = ap kinds_of_earlier (sym found) } in
+      subst Told (sym h.is) at_one;
+  tells = some_kinds known operands h;
+}
 
 -- the kinds that a word asks for -----------------------------------------------------------------------------------
 
@@ -209,6 +221,11 @@ told_selected known name (Some Spread) args h =
     (λ few. (column_of (first_kinds (kinds_among operands)) place (slice_get args 2) _ (there_at args 2 (omega arith)) kinds, range.0, range.1))
     (some_kinds known operands operand)
 
+told_cache : (known : Known) (name : Option (List ℕ)) (args : List (List ℕ)) → IsAccepted known (shape_in Cache args) args → IsToldWord known name Cache args
+told_cache known name args h =
+    let one = leb-true 1 (length args) (and_parts (leb 1 (length args)) (leb (length args) 1) h.count).0 in
+    told_cached known _ (operands_in known (shape_in Cache args) args) (operand_there known args (omega arith) h.operands)
+
 told_print : (known : Known) (name : Option (List ℕ)) (args : List (List ℕ)) → IsAccepted known (shape_in Print args) args → IsToldWord known name Print args
 told_print known name args h =
     let one = leb-true 1 (length args) (and_parts (leb 1 (length args)) (leb (length args) 1) h.count).0 in
@@ -237,6 +254,7 @@ word_told known name Generate args h = told_generate known name args h
 word_told known name Map args h = told_map known name args h
 word_told known name Filter args h = told_filter known name args h
 word_told known name FlatMap args h = told_selected known (unwrap_or name []) (selector_in args) args h
+word_told known name Cache args h = told_cache known name args h
 word_told known name Print args h = told_print known name args h
 word_told known name Size args h = told_size known name args h
 word_told known name Sum args h = told_sum known name args h
@@ -269,6 +287,7 @@ statable known Lines args h = tt
 statable known Generate args h = tt
 statable known Map args h = tt
 statable known Filter args h = tt
+statable known Cache args h = tt
 statable known Print args h = tt
 statable known Size args h = tt
 

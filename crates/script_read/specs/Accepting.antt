@@ -1,5 +1,5 @@
 -- What is known of a line for which no cause applies.
-use Rattle.std.specs.Prelude.{◌≡◌, ◌<◌, ◌^◌, ℕ, true, false, List, [], Option, None, Some, length, map}
+use Rattle.std.specs.Prelude.{◌≡◌, ◌<◌, ◌^◌, ℕ, true, false, List, [], Option, None, Some, length}
 use Rattle.std.specs.List.{list_all, list_any}
 use Rattle.std.specs.Prelude.{is_none}
 use Rattle.row_defs.specs.declared.kind.Kind.{Kind}
@@ -8,7 +8,7 @@ use Rattle.row_defs.specs.Values.{expr_kind}
 use Rattle.script_defs.specs.declared.shape.Shape.{Shape}
 use Rattle.script_defs.specs.declared.word.Word.{Word}
 use Rattle.script_defs.specs.declared.word.Word.TheVariants.{FlatMap, Sum}
-use Rattle.script_defs.specs.Scripts.{Form, lines_form, generate_form, local_form, Statement, line, act, first_kinds}
+use Rattle.script_defs.specs.Scripts.{Form, lines_form, generate_form, local_form, cache_form, Statement, line, act, first_kinds}
 use Rattle.script_defs.specs.Reading.{is_printable, Earlier, Known, value_in, number_word, operands_in, operand_kinds, exprs_fault, fits_count, is_bad_form, has_unknown_name, has_unknown_word, has_bad_number, has_bad_column, has_bad_kind, LineReading, skipped, refused, stated}
 use Rattle.dia_item.specs.KindList.{kind_list}
 use Rattle.script_read.specs.Statements.{form_in, action_in}
@@ -52,6 +52,7 @@ CanTell operands (generate_form count) = Unit {0}
 CanTell operands (local_form of (map_op exprs)) =
     (0 < length operands) × (0 < length exprs) × (list_any (λ e. is_none (expr_kind (first_kinds operands) e)) exprs ≡ false)
 CanTell operands (local_form of op) = 0 < length operands
+CanTell operands (cache_form of) = 0 < length operands
 
 abbrev pub CanTellStatement : List (List Kind) → Statement → Type 0
 CanTellStatement operands (line name form) = CanTell operands form

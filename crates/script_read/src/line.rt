@@ -148,6 +148,7 @@ fn state(
         Word::Map => Ok(Stated::Line(Form::Map { of, exprs })),
         Word::Filter => Ok(Stated::Line(filter_of(of, exprs))),
         Word::FlatMap => Ok(Stated::Line(flat_map_of(of, shape, args, operands))),
+        Word::Cache => Ok(Stated::Line(Form::Cache { of })),
         Word::Print => Ok(Stated::Act(Action::Print { of })),
         Word::Size => Ok(Stated::Act(Action::Size { of })),
         Word::Sum => Ok(Stated::Act(Action::Sum {

@@ -46,6 +46,11 @@ pub enum Form {
         /// How many rows are made of one: 1 to 16.
         count: u32,
     },
+    /// The rows of an earlier line, done once and kept.
+    Cache {
+        /// The earlier line.
+        of: u32,
+    },
 }
 
 /// What is done with a line.

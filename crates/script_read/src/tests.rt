@@ -27,7 +27,7 @@ fn third(alloc: Global, line: &[u8]) -> Result<Vec<u8>, NoMemory> {
 
 #[test]
 fn scripts_are_accepted(rt: HostRuntime) -> Result<(), Fail> {
-    let scripts: [&[u8]; 13] = [
+    let scripts: [&[u8]; 14] = [
         b"",
         b"\n\n",
         b"# none",
@@ -40,6 +40,7 @@ fn scripts_are_accepted(rt: HostRuntime) -> Result<(), Fail> {
         b"abcdefghijklmnopqrstuvwxyz_01234 = lines in\nprint abcdefghijklmnopqrstuvwxyz_01234\n",
         b"n = generate 4294967296\ne = filter n eq 0 mod f0 2\nsum e 00000000000000000000",
         b"n = generate 0\ns = flatmap n spread 0 16\nw = flatmap s spread 0 1\nsize w",
+        b"t = lines in\nk = cache t\nm = map k f0 len f0\nc = cache m\nsum c 1\nprint k",
         b"t = lines in\nw = flatmap t words 0\nq = map w if lt f0 'm 'low 'high 1\nsize q\nsum q 1",
     ];
     for script in scripts {
@@ -139,18 +140,22 @@ fn the_cause_listed_earlier_stands_before_the_other(rt: HostRuntime) -> Result<(
 
 #[test]
 fn each_word_has_its_refusals(rt: HostRuntime) -> Result<(), Fail> {
-    let lines: [(&[u8], Cause); 33] = [
+    let lines: [(&[u8], Cause); 37] = [
         (b"b = map n", Cause::BadForm),
         (b"b = filter n", Cause::BadForm),
         (b"b = filter n f0 zork", Cause::BadForm),
         (b"b = flatmap n", Cause::BadForm),
         (b"b = flatmap n words", Cause::BadForm),
         (b"b = flatmap n spread 0", Cause::BadForm),
+        (b"b = cache", Cause::BadForm),
+        (b"b = cache n n", Cause::BadForm),
         (b"size n n", Cause::BadForm),
         (b"sum n", Cause::BadForm),
         (b"b = flatmap x zork", Cause::UnknownName),
+        (b"b = cache x", Cause::UnknownName),
         (b"sum x 1x", Cause::UnknownName),
         (b"t = flatmap n zork", Cause::NameTaken),
+        (b"t = cache n", Cause::NameTaken),
         (b"b = print n", Cause::UnknownWord),
         (b"cache n", Cause::UnknownWord),
         (b"b = flatmap n zork 1x", Cause::UnknownWord),

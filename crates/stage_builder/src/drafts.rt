@@ -48,6 +48,19 @@ fn stage_of<'s>(
                 readers: 0,
                 task: Task::Read { name, input },
             })),
+            Form::Cache { of } => {
+                let operand = operand_of(alloc, lines, *of)?;
+                Ok(Some(Stage {
+                    line: item.line,
+                    word: Word::Cache,
+                    readers: 0,
+                    task: Task::Cache {
+                        name,
+                        of: *of,
+                        operand,
+                    },
+                }))
+            }
             _ => Ok(None),
         },
         Statement::Act(action) => {

@@ -1,18 +1,18 @@
 //! What a plan says of the readers of rows that are kept.
-ghost use Rattle.std.specs.Prelude.{◌≡◌, ℕ, ◌+◌, ◌++◌, List, IfOk, OnOk};
+ghost use Rattle.std.specs.Prelude.{◌≡◌, ℕ, ◌+◌, ◌∷◌, ◌++◌, List, IfOk, OnOk};
 ghost use Rattle.std.specs.List.{count_by};
 ghost use Rattle.row_defs.specs.Operands as operands;
 ghost use Rattle.row_defs.specs.Operands.{is_stored_at};
 ghost use Rattle.script_defs.specs.Plans.{all_operands};
-ghost use Rattle.lop_chain.specs.Operands.{root_in};
-ghost use Rattle.stage_builder.specs.Marks.{roots_of, last_among, marked_stage, marked};
+ghost use Rattle.lop_chain.specs.Operands.{root_in, operand_in};
+ghost use Rattle.stage_builder.specs.Marks.{roots_of, last_among, marked_operand, marked_stage, marked};
 ghost use Rattle.stage_builder.specs.Tables.{counts_in, count_at, Counts};
 ghost use Rattle.stage_builder.specs.Views.{stage_in, stages_in};
 
 use crate::plan::{Stage, Task};
 use crate::readers::Readers;
 use dia_edge::NoMemory;
-use lop_chain::Root;
+use lop_chain::{Operand, Root};
 use std::alloc::Global;
 
 /// Adds the readers that these stages are.
@@ -22,7 +22,7 @@ fn add_readers(stages: &[Stage], readers: &mut Readers) -> Result<(), NoMemory>
     match stages.split_first() {
         None => Ok(()),
         Some((first, rest)) => {
-            if let Task::Act { operand, .. } = &first.task {
+            if let Task::Cache { operand, .. } | Task::Act { operand, .. } = &first.task {
                 readers.add(&operand.root)?;
             }
             add_readers(rest, readers)
@@ -49,6 +49,16 @@ fn is_last(root: &Root, later: &Readers) -> bool
     }
 }
 
+/// Sets whether an operand is the last to read its rows. `left` has its reader, and then those of the later operands.
+fn mark_operand(operand: &mut Operand, left: &mut Readers)
+    ensures left { (later : List operands.Root) → Counts (counts_in left.old) (root_in operand.old.root ∷ later) → Counts (counts_in left.new) later }
+    ensures operand { (later : List operands.Root) → Counts (counts_in left.old) (root_in operand.old.root ∷ later)
+        → operand_in operand.new ≡ marked_operand (operand_in operand.old) later }
+{
+    left.take(&operand.root);
+    operand.last = is_last(&operand.root, left);
+}
+
 /// Sets by how many operands a stage is read, and whether its operand is the last to read its rows. `left` has the readers
 /// from this stage on, and then those of the later stages.
 fn mark_stage(stage: &mut Stage, all: &Readers, left: &mut Readers)
@@ -57,9 +67,10 @@ fn mark_stage(stage: &mut Stage, all: &Readers, left: &mut Readers)
         → stage_in stage.new ≡ marked_stage roots later (stage_in stage.old) }
 {
     stage.readers = all.of(stage.line);
-    if let Task::Act { operand, .. } = &mut stage.task {
-        left.take(&operand.root);
-        operand.last = is_last(&operand.root, left);
+    match &mut stage.task {
+        Task::Read { .. } => {}
+        Task::Cache { operand, .. } => mark_operand(operand, left),
+        Task::Act { operand, .. } => mark_operand(operand, left),
     }
 }
 

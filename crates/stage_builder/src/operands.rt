@@ -10,7 +10,7 @@ ghost use Rattle.dia_item.specs.KindList.{kind_list};
 ghost use Rattle.lop_chain.specs.Ops.{op_in};
 ghost use Rattle.lop_chain.specs.Operands.{root_in, operand_in};
 ghost use Rattle.stage_builder.specs.Lines.{found_form};
-ghost use Rattle.stage_builder.specs.Origins.{origin_in, origin_where};
+ghost use Rattle.stage_builder.specs.Origins.{origin_in, origin_where, named_in, named_where};
 ghost use Rattle.stage_builder.specs.Tables.{script_in, AreRead};
 
 use crate::lines::Lines;
@@ -24,8 +24,10 @@ use std::alloc::Global;
 /// How a line comes to its rows.
 #[derive(Drop)]
 enum Origin {
-    /// They are kept.
+    /// They are an input's, and kept.
     Kept,
+    /// They are an earlier line's, and kept.
+    Cached(u32),
     /// They are so many numbers, made anew at each use.
     Counted(u64),
     /// A local line makes them of an earlier line's, anew at each use.
@@ -34,11 +36,13 @@ enum Origin {
 
 /// How a line of this form comes to its rows.
 fn origin_of(alloc: Global, form: Option<&Form>) -> Result<Origin, NoMemory>
-    ensures { IfOk result (λ origin. origin_in origin ≡ origin_where (option_map found_form form.entry)) }
+    ensures comes { IfOk result (λ origin. origin_in origin ≡ origin_where (option_map found_form form.entry)) }
+    ensures names { IfOk result (λ origin. named_in origin ≡ named_where (option_map found_form form.entry)) }
 {
     let (of, op) = match form {
         None | Some(Form::Lines { .. }) => return Ok(Origin::Kept),
         Some(Form::Generate { count }) => return Ok(Origin::Counted(*count)),
+        Some(Form::Cache { of }) => return Ok(Origin::Cached(*of)),
         Some(Form::Map { of, exprs }) => {
             (of, ScriptOp::Map(copy_exprs(alloc, exprs.as_slice())?))
         }
@@ -69,13 +73,13 @@ fn kinds_behind(alloc: Global, op: &ScriptOp, of: &Kinds) -> Result<Kinds, NoMem
     }
 }
 
-fn root_operand(alloc: Global, root: Root, kind: Kind) -> Operand
-    ensures { operand_in result ≡ record { root = root_in root; last = false; kinds = kind ∷ []; chain = [] } }
+fn root_operand(alloc: Global, root: Root, kinds: Kinds) -> Operand
+    ensures { operand_in result ≡ record { root = root_in root; last = false; kinds = kind_list kinds; chain = [] } }
 {
     Operand {
         root,
         last: false,
-        kinds: Kinds::one(kind),
+        kinds,
         chain: Vec::new(alloc),
     }
 }
@@ -88,10 +92,18 @@ pub(crate) fn operand_of(alloc: Global, lines: &Lines<'_>, number: u32) -> Resul
     ensures { IfOk result (λ o. IsOperand (script_in lines.now) number (operand_in o)) }
 {
     match origin_of(alloc, lines.form(number))? {
-        Origin::Kept => Ok(root_operand(alloc, Root::Stored(number), Kind::Text)),
+        Origin::Kept => {
+            let kinds = Kinds::one(Kind::Text);
+            Ok(root_operand(alloc, Root::Stored(number), kinds))
+        }
+        Origin::Cached(of) => {
+            // Its rows are those of the line that it keeps.
+            let operand = operand_of(alloc, lines, of)?;
+            Ok(root_operand(alloc, Root::Stored(number), operand.kinds))
+        }
         Origin::Counted(rows) => {
             let root = Root::Count { line: number, rows };
-            Ok(root_operand(alloc, root, Kind::Int))
+            Ok(root_operand(alloc, root, Kinds::one(Kind::Int)))
         }
         Origin::Made { of, op } => {
             let mut operand = operand_of(alloc, lines, of)?;

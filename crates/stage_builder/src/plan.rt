@@ -15,6 +15,15 @@ pub enum Task<'s> {
         /// The input's name.
         input: &'s Name,
     },
+    /// Keeps the rows of an earlier line.
+    Cache {
+        /// The name that the script gives the line.
+        name: &'s Name,
+        /// The earlier line.
+        of: u32,
+        /// The rows that arrive.
+        operand: Operand,
+    },
     /// Does an action.
     Act {
         /// The action.

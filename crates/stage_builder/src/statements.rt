@@ -37,7 +37,8 @@ fn form_operand(form: &Form) -> Option<u32>
         Form::Map { of, .. }
         | Form::Filter { of, .. }
         | Form::Words { of, .. }
-        | Form::Spread { of, .. } => Some(*of),
+        | Form::Spread { of, .. }
+        | Form::Cache { of } => Some(*of),
     }
 }
 

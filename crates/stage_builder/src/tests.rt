@@ -27,7 +27,7 @@ struct Row {
 fn row_of(stage: &Stage) -> Row {
     let operand = match &stage.task {
         Task::Read { .. } => None,
-        Task::Act { operand, .. } => Some(Over {
+        Task::Cache { operand, .. } | Task::Act { operand, .. } => Some(Over {
             root: operand.root,
             last: operand.last,
             local_lines: operand.chain.len(),
@@ -60,6 +60,13 @@ fn act(line: u32, word: Word, root: Root, last: bool, local_lines: usize) -> Row
             last,
             local_lines,
         }),
+    }
+}
+
+fn cache(line: u32, readers: u32, root: Root, last: bool, local_lines: usize) -> Row {
+    Row {
+        readers,
+        ..act(line, Word::Cache, root, last, local_lines)
     }
 }
 
@@ -107,6 +114,36 @@ fn plans_are_those_of_their_scripts(rt: HostRuntime) -> Result<(), Fail> {
     let want = [
         act(3, Word::Sum, count, false, 1),
         act(4, Word::Size, count, false, 0),
+    ];
+    assert_eq!(rt; rows.as_slice(), want.as_slice());
+    Ok(())
+}
+
+#[test]
+fn a_cache_is_a_stage_and_a_root(rt: HostRuntime) -> Result<(), Fail> {
+    let rows = plan_of(
+        rt.alloc(),
+        b"t = lines in\nm = map t f0 len f0\nk = cache m\nsize k\ns = map k f1\nsum s 0\nprint t\n",
+    )?;
+    let want = [
+        read(1, 2),
+        cache(3, 2, Root::Stored(1), false, 1),
+        act(4, Word::Size, Root::Stored(3), false, 0),
+        act(6, Word::Sum, Root::Stored(3), true, 1),
+        act(7, Word::Print, Root::Stored(1), true, 0),
+    ];
+    assert_eq!(rt; rows.as_slice(), want.as_slice());
+
+    let count = Root::Count { line: 1, rows: 5 };
+    let rows = plan_of(
+        rt.alloc(),
+        b"n = generate 5\nk = cache n\nc = cache k\nsum c 0\nsize k\n",
+    )?;
+    let want = [
+        cache(2, 2, count, false, 0),
+        cache(3, 1, Root::Stored(2), false, 0),
+        act(4, Word::Sum, Root::Stored(3), true, 0),
+        act(5, Word::Size, Root::Stored(2), true, 0),
     ];
     assert_eq!(rt; rows.as_slice(), want.as_slice());
     Ok(())

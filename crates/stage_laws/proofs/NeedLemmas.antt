@@ -2,7 +2,7 @@
 use Rattle.std.proofs.Common.{◌≡◌, ℕ, true, false, cond, List, [], ◌∷◌, ◌++◌, map, filter, Option, None, Some, refl, sym, ap, ◌∙◌}
 use Rattle.std.specs.List.{AllByRecursion, flat_map}
 use Rattle.std.proofs.lemmas.Bool.{true≢false}
-use Rattle.script_defs.specs.Scripts.{lines_form, generate_form, local_form, Statement, line, act, Script, statement_at}
+use Rattle.script_defs.specs.Scripts.{lines_form, generate_form, local_form, cache_form, Statement, line, act, Script, statement_at}
 use Rattle.script_defs.specs.Work.{Item, do_line, do_action, work_of}
 use Rattle.script_defs.specs.Plans.{Stage, IsStage, IsPlan, item_of, is_stage, is_stored_line}
 use Rattle.script_defs.specs.Needs.{read_by, read_by_some, read_by_item, inputs_needed, read_by_stages}
@@ -12,6 +12,7 @@ unread None quiet = refl
 unread (Some (line name (lines_form input))) quiet = absurd (true≢false quiet)
 unread (Some (line name (generate_form count))) quiet = refl
 unread (Some (line name (local_form of op))) quiet = refl
+unread (Some (line name (cache_form of))) quiet = absurd (true≢false quiet)
 unread (Some (act action)) quiet = refl
 
 unread_item : (script : Script) (x : Item) → is_stage script x ≡ false → read_by_item script x ≡ []

@@ -4,7 +4,7 @@ use Rattle.std.specs.Prelude.{◌↔◌}
 use Rattle.std.specs.List.{AllByRecursion}
 use Rattle.std.proofs.lemmas.Bool.{true≢false, eqb-true}
 use Rattle.row_defs.specs.declared.kind.Kind.{Kind}
-use Rattle.script_defs.specs.Scripts.{Form, lines_form, generate_form, local_form, form_operands, Action, action_operand, Statement, line, act, operands_of, Numbered, Script, statement_at, IsLineIn}
+use Rattle.script_defs.specs.Scripts.{Form, lines_form, generate_form, local_form, cache_form, form_operands, Action, action_operand, Statement, line, act, operands_of, Numbered, Script, statement_at, IsLineIn}
 use Rattle.script_defs.specs.Reading.{Earlier, Known, known_after, nothing_known}
 use Rattle.script_defs.specs.Sound.{IsSound, IsSoundForm, IsSoundStatement, kinds_of_statement}
 use Rattle.script_defs.specs.Work.{Item, do_line, do_action, has_number, closure, is_line, lines_to_do, work_from, work_of}
@@ -32,6 +32,7 @@ form_names : (script : Script) (known : Known) (form : Form) → KnowsLines scri
 form_names script known (lines_form input) all h = tt
 form_names script known (generate_form count) all h = tt
 form_names script known (local_form of op) all h = (earlier_line script known.lines of all h.0, tt)
+form_names script known (cache_form of) all h = (earlier_line script known.lines of all h, tt)
 
 statement_names : (script : Script) (known : Known) (s : Statement) → KnowsLines script known → IsSoundStatement known s
     → AllByRecursion (λ of. IsLineIn script of) (operands_of s)

@@ -1,4 +1,3 @@
-use Rattle.script_read.proofs.Printables.{name_printable}
 use Rattle.script_read.proofs.line.line_read.Goals as goal
 
 pub kinds_of_form-requires : goal.kinds_of_form-requires

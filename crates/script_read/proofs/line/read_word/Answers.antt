@@ -1,6 +1,5 @@
-use Rattle.std.proofs.Common.{◌≡◌, None, [], List, ℕ, map, sym, ap, ◌∙◌, rules}
-use Rattle.script_defs.specs.Reading.{Earlier, operands_in, first_cause, tests_of}
-use Rattle.script_read.specs.Accepting.{AreTexts}
+use Rattle.std.proofs.Common.{◌≡◌, None, [], map, sym, ◌∙◌, rules}
+use Rattle.script_defs.specs.Reading.{operands_in, first_cause, tests_of}
 use Rattle.script_read.specs.Knowing.{known_in, earlier_at}
 use Rattle.script_read.specs.Sentences.{sentence_in}
 use Rattle.script_read.proofs.AcceptedLemmas.{accepted}

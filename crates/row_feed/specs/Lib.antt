@@ -1,4 +1,0 @@
-pub mod Sources
-pub mod Sinks
-pub mod Sums
-pub mod Printing

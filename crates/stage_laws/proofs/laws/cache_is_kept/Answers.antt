@@ -1,0 +1,6 @@
+use Rattle.std.specs.Prelude.{IsTrue}
+use Rattle.stage_laws.proofs.CacheLemmas.{cache_is_kept}
+use Rattle.stage_laws.proofs.laws.cache_is_kept.Goals as goal
+
+pub returns : goal.returns
+returns c = λ test test_now. cache_is_kept (λ rows. IsTrue (test rows)) (λ rows. IsTrue (test_now rows))
