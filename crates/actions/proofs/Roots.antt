@@ -18,7 +18,7 @@ use Rattle.scatter.specs.Phases.{pools_of}
 use Rattle.scatter.specs.Begun.{IsNew}
 use Rattle.scatter.proofs.Rooted.{FeedHasKinds, GoesThrough, feed_rows, root_ops}
 use Rattle.scatter.specs.Told.{Tells, AreTold, HasPermit, arriving}
-use Rattle.stock_actions.specs.Printing.{rows_of_feeds, AreToldFeeds, CanPrint}
+use Rattle.actions.specs.Printing.{rows_of_feeds, AreToldFeeds, CanPrint}
 
 -- they may be printed
 pub can_print : (kinds to : Kinds) (ops : List LocalOp) → AreSoundOps kinds ops to → (fs : List FeedValue) (hs : List HandValue)

@@ -22,9 +22,9 @@ use Rattle.feed_actions.specs.declared.action.ActErr.TheVariants as errors
 use Rattle.scatter.specs.Told.{AreTold, arriving}
 use Rattle.feed_actions.specs.Counting.{CountRefused}
 use Rattle.feed_actions.specs.Acting.{act_refusal, ActRefused}
-use Rattle.stock_actions.specs.Printing.{PrintedAll, PrintedFirst, NotAllPrinted}
-use Rattle.stock_actions.specs.Acting.{IsBegun, IsCutOff, ActStopped, print_refusal}
-use Rattle.stock_actions.proofs.SameLines.{arriving_still, told_still, all_tell, hit_since}
+use Rattle.actions.specs.Printing.{PrintedAll, PrintedFirst, NotAllPrinted}
+use Rattle.actions.specs.Acting.{IsBegun, IsCutOff, ActStopped, print_refusal}
+use Rattle.actions.proofs.SameLines.{arriving_still, told_still, all_tell, hit_since}
 
 -- printing ------------------------------------------------------------------------------------------------------------------
 

@@ -15,7 +15,7 @@ ghost use Rattle.scatter.specs.Lines.{HasRoot, root_kinds};
 ghost use Rattle.scatter.specs.Stocks.{lines_of, AreInPools};
 ghost use Rattle.scatter.specs.Phases.{pools_of, IsUsed};
 ghost use Rattle.scatter.specs.Told.{AreTold, HasPermit, arriving};
-ghost use Rattle.stock_actions.specs.Acting.{ActStopped};
+ghost use Rattle.actions.specs.Acting.{ActStopped};
 
 use crate::print::print;
 use block_pool::Hand;

@@ -3,7 +3,7 @@ ghost use Rattle.std.specs.Prelude.{◌≡◌, ◌≤◌, Ok, Err, OnOk, IfOk, I
 ghost use Rattle.std.specs.List.{AllZip};
 ghost use Rattle.block_pool.specs.Handles.{HandValue, Follows};
 ghost use Rattle.scatter.specs.Feeds.{FeedValue};
-ghost use Rattle.stock_actions.specs.Printing.{rows_of_feeds, AreToldFeeds, CanPrint, PrintedOne, HasPrinted};
+ghost use Rattle.actions.specs.Printing.{rows_of_feeds, AreToldFeeds, CanPrint, PrintedOne, HasPrinted};
 
 use block_pool::Hand;
 use dia_edge::{Disk, Failed, NoMemory, Sink};

@@ -13,8 +13,8 @@ ghost use Rattle.scatter.specs.Stocks.{lines_of, AreInPools};
 ghost use Rattle.scatter.specs.Phases.{pools_of, IsUsed};
 ghost use Rattle.feed_print.specs.Printing.{texts_of_rows};
 ghost use Rattle.scatter.specs.Told.{AreTold, HasPermit, arriving};
-ghost use Rattle.stock_actions.specs.Printing.{HasPrinted};
-ghost use Rattle.stock_actions.specs.Acting.{print_refusal, ActStopped};
+ghost use Rattle.actions.specs.Printing.{HasPrinted};
+ghost use Rattle.actions.specs.Acting.{print_refusal, ActStopped};
 
 use crate::checking::check_few;
 use crate::feeds::{Printed, print_feeds};

@@ -1,12 +1,10 @@
 //! Reads an input.
 ghost use Rattle.std.specs.Prelude.{◌≡◌, ◌+◌, ◌≤◌, ◌<◌, ◌∷◌, [], true, ℕ, List, Option, Some, length, OnOk, OnErr, IfOk, IfErr, IfSome};
-ghost use Rattle.row_defs.specs.Pieces.{line_rows};
 ghost use Rattle.dia_edge.specs.Shelves.{IsAtEnd};
 ghost use Rattle.dia_lines.specs.Taking.{HasTaken, TookAllOf};
-ghost use Rattle.dia_lines.specs.Inputs.{Stays, Asks, IsInputReason, IsReading, TookInput, TookOpened, IsReadFault, IsInput, IsInputCause, IsTakersOwn, reason_of};
+ghost use Rattle.dia_lines.specs.Inputs.{Stays, Asks, IsInputReason, IsReading, TookInput, TookOpened, IsReadFault, IsTakersOwn, reason_of};
 
 use crate::cutter::{Cutter, TakeErr};
-use crate::line_rows::LineRows;
 use crate::line_taker::LineTaker;
 use dia_edge::{Failed, Name, NoMemory, Shelf};
 use row_defs::limits::LONGEST_INPUT;
@@ -233,26 +231,4 @@ pub fn read_input<R: Wait, N: Shelf, T: LineTaker>(
             count: shelf.fault_count(),
         }),
     }
-}
-
-/// Reads the lines of an input, from its first byte to its end, as rows of one text that are kept in memory.
-///
-/// After a refusal the shelf stands anywhere in the input.
-pub fn read_rows<R: Wait, N: Shelf>(
-    rt: &R,
-    alloc: Global,
-    shelf: &mut N,
-    name: &Name,
-) -> Result<LineRows, InputErr<NoMemory>>
-    ensures read { N.is_fixed shelf.old ≡ true → IfOk result (λ rows. IfSome (N.holds shelf.old) (λ held. IsInput rows (held name.now))) }
-    // Whatever the shelf tells, the rows are those of the lines of some bytes.
-    ensures lines { IfOk result (λ rows. (bytes : List ℕ) × (rows ≡ line_rows bytes)) }
-    ensures refused { N.is_fixed shelf.old ≡ true → IfErr result (λ e. IfSome (N.holds shelf.old) (λ held. IsInputCause e (held name.now))) }
-    ensures fault { IfErr result (λ e. IsReadFault e (N.faults shelf.old) (N.faults shelf.new)) }
-    ensures stays { Stays N.Shelf shelf.old shelf.new }
-    ensures asked { Asks N.Shelf shelf.old shelf.new (name.now ∷ []) result }
-{
-    let mut rows = LineRows::new(alloc)?;
-    read_input(rt, alloc, shelf, name, &mut rows, &mut ())?;
-    Ok(rows)
 }

@@ -14,11 +14,6 @@ abbrev pub is_script_name : List ℕ → Bool
 is_script_name [] = false
 is_script_name (b ∷ name) = not (b == 45)
 
--- `run` and a script's name; every other list of words means nothing
-abbrev pub script_of : List (List ℕ) → Option (List ℕ)
-script_of (command ∷ script ∷ []) = if bytes_eq command (codes "run") && is_script_name script then Some script else None
-script_of words = None
-
 -- items ---------------------------------------------------------------------------------------------------------
 
 -- what the words behind `run` are cut into: a plain word, or an option's name and its value

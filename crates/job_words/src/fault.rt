@@ -43,9 +43,9 @@ pub enum TopFault {
         /// How many the job needs.
         need: u64,
     },
-    /// More than 2^40 rows arrive at an action; status 7.
+    /// More than 2^40 rows arrive at a line or an action; status 7.
     TooManyRows {
-        /// The action's line in the script.
+        /// The line of the script.
         line: u32,
     },
     /// The shelf failed; status 8.

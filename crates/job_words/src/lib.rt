@@ -14,7 +14,7 @@ mod words;
 
 pub use command::{Command, Job};
 pub use fault::{TopFault, put_fault};
-pub use words::{script_of, words_mean};
+pub use words::words_mean;
 
 #[cfg(test)]
 mod tests;

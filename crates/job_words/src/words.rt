@@ -1,8 +1,8 @@
 //! The words of a command line.
-ghost use Rattle.std.specs.Prelude.{◌≡◌, ◌≤◌, IfOk, IfSome};
+ghost use Rattle.std.specs.Prelude.{◌≡◌, ◌≤◌, IfOk, OnErr, IfSome, IsSome};
 ghost use Rattle.std.specs.Option.{option_map};
 ghost use Rattle.job_words.specs.Settings.{row_of};
-ghost use Rattle.job_words.specs.Words.{is_script_name, script_of, items_of, plain_words, value_for, values_for, script_among, number_for, run_of, words_mean};
+ghost use Rattle.job_words.specs.Words.{is_script_name, items_of, plain_words, value_for, values_for, script_among, number_for, run_of, words_mean};
 ghost use Rattle.job_words.specs.Within.{IsWithin};
 ghost use Rattle.job_words.specs.Cutting.{item_view, few_of, few_map, with_one};
 
@@ -104,6 +104,7 @@ fn number_in(setting: Setting, words: &[Name]) -> Option<u64>
 /// The run that the words behind `run` ask for.
 fn run_meant(alloc: Global, words: &[Name]) -> Result<Option<Command>, NoMemory>
     ensures meaning { IfOk result (λ command. command ≡ run_of (items_of words.now)) }
+    ensures some { OnErr result (IsSome (run_of (items_of words.now))) }
     ensures within { IfOk result (λ command. IfSome command IsWithin) }
 {
     let Some(script) = script_in(words) else {
@@ -133,30 +134,14 @@ fn run_meant(alloc: Global, words: &[Name]) -> Result<Option<Command>, NoMemory>
 /// The command that words ask for; None where they mean nothing.
 ///
 /// They are `run SCRIPT [--workers V] [--pool V] [--block V] [--schedule V]`, the script and the options in any order, where an
-/// option is two words or NAME=V.
+/// option is two words or NAME=V. Memory can run out only where they mean something.
 pub fn words_mean(alloc: Global, words: &[Name]) -> Result<Option<Command>, NoMemory>
     ensures meaning { IfOk result (λ command. command ≡ words_mean words.now) }
+    ensures some { OnErr result (IsSome (words_mean words.now)) }
     ensures within { IfOk result (λ command. IfSome command IsWithin) }
 {
     match words {
         [command, rest @ ..] if command.text() == "run" => run_meant(alloc, rest),
         _ => Ok(None),
-    }
-}
-
-/// The script that the words `run SCRIPT` name; None where the words mean nothing.
-pub fn script_of(words: &[Name]) -> Option<&Name>
-    ensures { option_map (λ name. name.now) result ≡ script_of words.now }
-{
-    match words {
-        [command, script] => {
-            let name = script.text().as_bytes();
-            if command.text() == "run" && is_script_name(name) {
-                Some(script)
-            } else {
-                None
-            }
-        }
-        _ => None,
     }
 }

@@ -1,7 +1,6 @@
 pub mod ReadLemmas
-pub mod KeptLemmas
-pub mod StepLemmas
-pub mod TaskLemmas
-pub mod PlanLemmas
-pub mod EndLemmas
+pub mod ScriptLemmas
 pub mod AskLemmas
+pub mod EndLemmas
+pub mod UnreadLemmas
+pub mod RanLemmas

@@ -1,5 +1,4 @@
 pub mod Errors
 pub mod Ends
-pub mod Promise
 pub mod Asking
-pub mod Steps
+pub mod Promise

@@ -1,44 +1,40 @@
-//! Reads a script and runs it.
-ghost use Rattle.std.specs.Prelude.{◌≡◌, ◌⊎◌, ◌∷◌, ℕ, List, Some, IfErr};
-ghost use Rattle.row_defs.specs.Inputs.{Inputs};
-ghost use Rattle.script_defs.specs.Scripts.{Script};
-ghost use Rattle.script_defs.specs.Needs.{inputs_needed};
-ghost use Rattle.dia_lines.specs.Inputs.{Asks};
-ghost use Rattle.job_words.specs.declared.fault.TopFault.TheVariants as faults;
-ghost use Rattle.thrill_top.specs.Asking.{IsScriptAt};
-ghost use Rattle.thrill_top.specs.Ends.{IsCallFault, status_in};
-ghost use Rattle.thrill_top.specs.Errors.{bytes_fault, script_fault, run_fault};
-ghost use Rattle.thrill_top.specs.Promise.{TellsInputs, TellsScript, EndsCall, fault_in};
+//! Runs a job.
+ghost use Rattle.std.specs.Prelude.{◌≡◌, None, Some};
+ghost use Rattle.job_words.specs.Within.{IsJobWithin};
+ghost use Rattle.script_run.specs.declared.pool.Setup as setups;
+ghost use Rattle.thrill_top.specs.Ends.{status_in};
+ghost use Rattle.thrill_top.specs.Errors.{run_fault, run_end};
+ghost use Rattle.thrill_top.specs.Promise.{KeepsPromise};
 
-use crate::read::{BytesErr, read_bytes};
-use crate::run::run_accepted;
-use crate::run_err::RunErr;
-use dia_edge::{Name, NoMemory, Shelf, Sink};
-use job_words::TopFault;
-use script_read::{ReadErr, read_script};
+use crate::script::script_named;
+use dia_edge::{Disk, Gate, Shelf, Sink};
+use job_words::{Job, TopFault};
+use script_run::{RunErr, Setup, run_job};
 use std::alloc::Global;
 use std::sync::Wait;
+use std::thread::Threads;
 
-/// The fault for a script whose bytes weren't read; want of memory where there is none for its name.
-fn fault_of_bytes(name: &Name, e: BytesErr) -> TopFault
-    ensures { (result ≡ bytes_fault name.now e) ⊎ (result ≡ faults.NoMemory) }
-{
-    match e {
-        BytesErr::Read { count } => TopFault::ReadFault { count },
-        BytesErr::NoMemory => TopFault::NoMemory,
-        BytesErr::Missing => match name.copy() {
-            Ok(name) => TopFault::Missing { name },
-            Err(NoMemory) => TopFault::NoMemory,
-        },
-    }
+/// How a call of the program ended.
+#[derive(Drop)]
+pub struct TopEnd<D> {
+    /// The status: 0, or that of the fault.
+    pub status: u8,
+    /// The fault, where there was one.
+    pub fault: Option<TopFault>,
+    /// The disk, handed back.
+    pub disk: D,
 }
 
-fn fault_of_script(e: ReadErr) -> TopFault
-    ensures { result ≡ script_fault e }
+/// The end with this fault.
+pub(crate) fn stopped<D>(fault: TopFault, disk: D) -> TopEnd<D>
+    ensures status { result.status ≡ status_in result.fault }
+    ensures fault { result.fault ≡ Some fault }
+    ensures disk { result.disk ≡ disk }
 {
-    match e {
-        ReadErr::Bad { line, cause } => TopFault::Script { line, cause },
-        ReadErr::NoMemory => TopFault::NoMemory,
+    TopEnd {
+        status: fault.status(),
+        fault: Some(fault),
+        disk,
     }
 }
 
@@ -49,39 +45,68 @@ fn fault_of_run(e: RunErr) -> TopFault
         RunErr::Missing { name } => TopFault::Missing { name },
         RunErr::LineTooLong { name, line } => TopFault::LineTooLong { name, line },
         RunErr::InputTooLong { name } => TopFault::InputTooLong { name },
+        RunErr::PoolTooSmall { frames, need } => TopFault::PoolTooSmall { frames, need },
         RunErr::TooManyRows { line } => TopFault::TooManyRows { line },
         RunErr::Read { count } => TopFault::ReadFault { count },
         RunErr::Write { count } => TopFault::WriteFault { count },
+        RunErr::Disk { count } => TopFault::DiskFault { count },
+        RunErr::Damaged => TopFault::Damaged,
         RunErr::NoMemory => TopFault::NoMemory,
     }
 }
 
-/// Runs the script with this name.
-pub(crate) fn run_script<R: Wait, N: Shelf, S: Sink>(
+/// The end of a run that answered so.
+fn ended<D: Drop>(answer: Result<(), RunErr>, disk: D) -> TopEnd<D>
+    ensures status { result.status ≡ status_in result.fault }
+    ensures fault { result.fault ≡ run_end answer }
+    ensures disk { result.disk ≡ disk }
+{
+    match answer {
+        Ok(()) => TopEnd {
+            status: 0,
+            fault: None,
+            disk,
+        },
+        Err(e) => stopped(fault_of_run(e), disk),
+    }
+}
+
+/// With what the job's script is run.
+fn setup_of(job: &Job) -> Setup
+    ensures workers { result.workers ≡ job.now.workers }
+    ensures limit { result.limit ≡ job.now.limit }
+    ensures block { result.block ≡ job.now.block }
+    ensures schedule { result.schedule ≡ job.now.schedule }
+{
+    Setup {
+        workers: job.workers,
+        limit: job.limit,
+        block: job.block,
+        schedule: job.schedule,
+    }
+}
+
+/// Runs a job: reads its script from the shelf, runs that with the job's workers in a pool of their own, and hands the disk back.
+///
+/// The texts of the script's actions go to `out`.
+pub fn job_call<R: Threads + Wait + Sync, N: Shelf, S: Sink, D: Disk + Send + Sync, G: Gate + Sync>(
     rt: &R,
     alloc: Global,
-    name: &Name,
+    job: &Job,
     shelf: &mut N,
     out: &mut S,
-) -> Result<(), TopFault>
-    ensures ends { (inputs : Inputs) → TellsInputs (N.holds shelf.old) (N.is_fixed shelf.old) inputs
-        → EndsCall inputs name.now (S.taken out.old) (fault_in result) (S.taken out.new) }
-    ensures script { (inputs : Inputs) → TellsInputs (N.holds shelf.old) (N.is_fixed shelf.old) inputs
-        → TellsScript inputs name.now (fault_in result) (status_in (fault_in result)) (out.new ≡ out.old) }
-    ensures asked { (inputs : Inputs) (script : Script) → TellsInputs (N.holds shelf.old) (N.is_fixed shelf.old) inputs → IsScriptAt inputs name.now script
-        → Asks N.Shelf shelf.old shelf.new (name.now ∷ inputs_needed script) result }
-    ensures fault { IfErr result (λ f. IsCallFault f (N.faults shelf.old) (N.faults shelf.new) (S.faults out.old) (S.faults out.new) (out.new ≡ out.old)) }
+    disk: D,
+    gate: &G,
+) -> TopEnd<D>
+    requires { IsJobWithin job.now }
+    ensures promise { KeepsPromise N.Shelf S.Sink D.Disk job.now shelf.old shelf.new out.old out.new disk result.disk result.fault }
+    ensures status { result.status ≡ status_in result.fault }
 {
-    let bytes = match read_bytes(alloc, shelf, name) {
-        Ok(bytes) => bytes,
-        Err(e) => return Err(fault_of_bytes(name, e)),
-    };
-    let script = match read_script(alloc, bytes.as_slice()) {
-        Ok(script) => script,
-        Err(e) => return Err(fault_of_script(e)),
-    };
-    match run_accepted(rt, alloc, &script, shelf, out) {
-        Ok(()) => Ok(()),
-        Err(e) => Err(fault_of_run(e)),
+    match script_named(alloc, shelf, &job.script) {
+        Ok(script) => {
+            let (answer, disk) = run_job(rt, alloc, &script, setup_of(job), shelf, out, disk, gate);
+            ended(answer, disk)
+        }
+        Err(fault) => stopped(fault, disk),
     }
 }

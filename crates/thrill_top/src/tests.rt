@@ -1,15 +1,18 @@
 //! Worked rows of the top call.
 
+mod meeting;
 mod sizes;
+mod spilling;
 
 use super::*;
-use dia_edge::{MemDisk, MemShelf, MemSink, Name, NoMemory, OpenGate};
+use dia_edge::{Gate, MemDisk, MemShelf, MemSink, Name, NoMemory, OpenGate};
 use std::alloc::Global;
 use std::process::Abort;
 use std::sync::Wait;
 use std::test::Fail;
+use std::thread::Threads;
 
-/// What a shelf, standard output and standard error are to do.
+/// What a shelf, standard output, standard error and a disk are to do.
 #[derive(Clone, Copy)]
 struct Case<'a> {
     words: &'a [&'a str],
@@ -19,6 +22,16 @@ struct Case<'a> {
     shelf_fails: u64,
     out_fails: u64,
     err_fails: u64,
+    disk_fails: u64,
+}
+
+/// What a call came to.
+#[derive(Drop)]
+struct Seen {
+    end: TopEnd<MemDisk>,
+    shelf: MemShelf,
+    stdout: MemSink,
+    stderr: MemSink,
 }
 
 fn fails(alloc: Global, call: u64) -> Result<Vec<u64>, NoMemory> {
@@ -49,16 +62,13 @@ fn text(bytes: &[u8]) -> &str {
     }
 }
 
-/// Checks that the call ends with this status and writes just these bytes, and asked for these names.
-fn ends<R: Wait + Abort>(
+/// Calls the program.
+fn see<R: Threads + Wait + Sync, G: Gate + Sync>(
     rt: &R,
     alloc: Global,
     case: &Case<'_>,
-    status: u8,
-    out: &[u8],
-    err: &[u8],
-    asked: Option<&[&str]>,
-) -> Result<(), NoMemory> {
+    gate: &G,
+) -> Result<Seen, NoMemory> {
     let mut files = Vec::new(alloc);
     if case.script.len() > 0 {
         files.push(file(alloc, "s", case.script)?)?;
@@ -69,7 +79,7 @@ fn ends<R: Wait + Abort>(
     let mut shelf = MemShelf::new(files, case.step.max(1), fails(alloc, case.shelf_fails)?);
     let mut stdout = MemSink::new(alloc, fails(alloc, case.out_fails)?);
     let mut stderr = MemSink::new(alloc, fails(alloc, case.err_fails)?);
-    let disk = MemDisk::new(alloc, Vec::new(alloc));
+    let disk = MemDisk::new(alloc, fails(alloc, case.disk_fails)?);
     let words = names(alloc, case.words)?;
     let end = thrill_call(
         rt,
@@ -79,17 +89,40 @@ fn ends<R: Wait + Abort>(
         &mut stdout,
         &mut stderr,
         disk,
-        &OpenGate,
+        gate,
     );
+    Ok(Seen {
+        end,
+        shelf,
+        stdout,
+        stderr,
+    })
+}
+
+/// Checks that the call ends with this status and writes just these bytes, and asked for these names.
+fn ends<R: Threads + Wait + Sync + Abort>(
+    rt: &R,
+    alloc: Global,
+    case: &Case<'_>,
+    status: u8,
+    out: &[u8],
+    err: &[u8],
+    asked: Option<&[&str]>,
+) -> Result<(), NoMemory> {
+    let seen = see(rt, alloc, case, &OpenGate)?;
     let script = text(case.script);
     assert_eq!(rt;
-        (end.status, text(stdout.bytes()), text(stderr.bytes())),
+        (
+            seen.end.status,
+            text(seen.stdout.bytes()),
+            text(seen.stderr.bytes())
+        ),
         (status, text(out), text(err)),
         "the script {script}"
     );
-    assert!(rt; stdout.bytes() == out, "the script {script}");
+    assert!(rt; seen.stdout.bytes() == out, "the script {script}");
     if let Some(asked) = asked {
-        assert!(rt; are_named(shelf.asked(), asked), "the script {script}");
+        assert!(rt; are_named(seen.shelf.asked(), asked), "the script {script}");
     }
     Ok(())
 }
@@ -114,6 +147,7 @@ fn case_of<'a>(script: &'a [u8], inputs: &'a [(&'a str, &'a [u8])], step: usize)
         shelf_fails: 0,
         out_fails: 0,
         err_fails: 0,
+        disk_fails: 0,
     }
 }
 
@@ -276,7 +310,11 @@ const ROWS: &[Row<'static>] = &[
 ];
 
 /// Checks each row, where the shelf gives so many bytes at a time.
-fn all_end<R: Wait + Abort>(rt: &R, alloc: Global, step: usize) -> Result<(), NoMemory> {
+fn all_end<R: Threads + Wait + Sync + Abort>(
+    rt: &R,
+    alloc: Global,
+    step: usize,
+) -> Result<(), NoMemory> {
     for (script, inputs, status, out, err) in ROWS {
         ends(
             rt,
@@ -293,8 +331,12 @@ fn all_end<R: Wait + Abort>(rt: &R, alloc: Global, step: usize) -> Result<(), No
 
 const A: &[(&str, &[u8])] = &[("in", b"a\n")];
 
-/// Objects that fail, and words that mean nothing.
-fn refuses<R: Wait + Abort>(rt: &R, alloc: Global, step: usize) -> Result<(), NoMemory> {
+/// Objects that fail.
+fn refuses<R: Threads + Wait + Sync + Abort>(
+    rt: &R,
+    alloc: Global,
+    step: usize,
+) -> Result<(), NoMemory> {
     let shelf = Case {
         shelf_fails: 2,
         ..case_of(TWICE, A, step)
@@ -345,11 +387,36 @@ fn refuses<R: Wait + Abort>(rt: &R, alloc: Global, step: usize) -> Result<(), No
         b"thrill: missing nowhere\n",
         Some(&["s", "nowhere"]),
     )?;
-    let words = Case {
-        words: &["run"],
-        ..case_of(TWICE, A, step)
+    Ok(())
+}
+
+/// Words that mean nothing.
+const USAGES: &[&[&str]] = &[
+    &[],
+    &["run"],
+    &["run", "s", "t"],
+    &["run", "-s"],
+    &["run", "s", "--block", "4095"],
+    &["run", "s", "--workers", "17"],
+    &["run", "s", "--workers", "2", "--workers", "2"],
+];
+
+#[test]
+fn words_mean_a_run_or_are_refused(rt: HostRuntime) -> Result<(), Fail> {
+    let alloc = rt.alloc();
+    for words in USAGES {
+        let case = Case {
+            words,
+            ..case_of(TWICE, A, 1000)
+        };
+        ends(&rt, alloc, &case, 2, b"", b"thrill: usage\n", Some(&[]))?;
+    }
+    let two = Case {
+        words: &["run", "--workers=2", "s"],
+        ..case_of(TWICE, A, 1000)
     };
-    ends(rt, alloc, &words, 2, b"", b"thrill: usage\n", Some(&[]))
+    ends(&rt, alloc, &two, 0, b"a\ta\n", b"", Some(&["s", "in"]))?;
+    Ok(())
 }
 
 #[test]
@@ -360,7 +427,7 @@ fn scripts_run(rt: HostRuntime) -> Result<(), Fail> {
 }
 
 /// Checks how two actions on one input end, where this call of the shelf fails.
-fn twice_used<R: Wait + Abort>(
+fn twice_used<R: Threads + Wait + Sync + Abort>(
     rt: &R,
     alloc: Global,
     call: u64,

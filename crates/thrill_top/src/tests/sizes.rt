@@ -6,6 +6,7 @@ use std::alloc::{AllocError, Global};
 use std::process::Abort;
 use std::sync::Wait;
 use std::test::Fail;
+use std::thread::Threads;
 
 /// So many of a byte.
 fn bytes_of(alloc: Global, byte: u8, count: usize) -> Result<Vec<u8>, AllocError> {
@@ -21,7 +22,7 @@ fn repeat(bytes: &mut Vec<u8>, piece: &[u8], times: usize) -> Result<(), AllocEr
 }
 
 /// Checks how a script ends over one input, which comes in pieces of one byte and of a thousand.
-fn over<R: Wait + Abort>(
+fn over<R: Threads + Wait + Sync + Abort>(
     rt: &R,
     alloc: Global,
     script: &[u8],

@@ -9,9 +9,9 @@ use Rattle.scatter.specs.Stocks.{lines_of}
 use Rattle.scatter.specs.Told.{AreTold, arriving}
 use Rattle.scatter.proofs.Results.{IfErr-map}
 use Rattle.feed_actions.specs.Acting.{ActRefused, sum_text}
-use Rattle.stock_actions.specs.Acting.{ActStopped}
-use Rattle.stock_actions.proofs.Stops.{number_stops}
-use Rattle.stock_actions.proofs.action.act.Goals as goal
+use Rattle.actions.specs.Acting.{ActStopped}
+use Rattle.actions.proofs.Stops.{number_stops}
+use Rattle.actions.proofs.action.act.Goals as goal
 
 pub returns-in-Sum-clause-text : goal.returns-in-Sum-clause-text
 returns-in-Sum-clause-text g c =

@@ -1,5 +1,5 @@
 use Rattle.feed_actions.proofs.Counts.{follow_refl, permits_refl}
-use Rattle.stock_actions.proofs.checking.check_few.Goals as goal
+use Rattle.actions.proofs.checking.check_few.Goals as goal
 
 pub returns-in-Ok-clause-permits : goal.returns-in-Ok-clause-permits
 returns-in-Ok-clause-permits g c = permits_refl c.args.hands.now.items

@@ -7,10 +7,10 @@ use Rattle.block_pool.specs.Handles.{Follows}
 use Rattle.scatter.specs.Feeds.{FeedValue}
 use Rattle.scatter.proofs.Making.{yield_more, one_longer, drop_more}
 use Rattle.scatter.proofs.Threes.{take_next, map_push}
-use Rattle.stock_actions.specs.Printing.{CanPrint}
-use Rattle.stock_actions.proofs.Snoc.{zip_more}
-use Rattle.stock_actions.proofs.Grown.{printed_next, permits_next}
-use Rattle.stock_actions.proofs.feeds.print_feeds.Goals as goal
+use Rattle.actions.specs.Printing.{CanPrint}
+use Rattle.actions.proofs.Snoc.{zip_more}
+use Rattle.actions.proofs.Grown.{printed_next, permits_next}
+use Rattle.actions.proofs.feeds.print_feeds.Goals as goal
 
 pub loop-feed-preserved : goal.loop-feed-preserved
 loop-feed-preserved g c =

@@ -4,8 +4,8 @@ use Rattle.std.specs.List.{AllZip}
 use Rattle.std.specs.Vec.Iter.{into_iter_items}
 use Rattle.block_pool.specs.Handles.{HandValue, Follows}
 use Rattle.scatter.specs.Feeds.{FeedValue}
-use Rattle.stock_actions.specs.Printing.{rows_of_feeds, AreToldFeeds, CanPrint, HasPrinted}
-use Rattle.stock_actions.proofs.feeds.print_feeds.Given as goal
+use Rattle.actions.specs.Printing.{rows_of_feeds, AreToldFeeds, CanPrint, HasPrinted}
+use Rattle.actions.proofs.feeds.print_feeds.Given as goal
 
 abbrev pub invariant-loop-feed : goal.invariant-loop-feed
 invariant-loop-feed g l = record {

@@ -8,10 +8,10 @@ use Rattle.scatter.specs.Stocks.{lines_of, AreInPools}
 use Rattle.scatter.specs.Phases.{pools_of}
 use Rattle.scatter.proofs.Results.{IfErr-map, OnOk-map}
 use Rattle.feed_print.specs.Printing.{texts_of_rows}
-use Rattle.stock_actions.specs.Acting.{ActStopped}
-use Rattle.stock_actions.proofs.SameLines.{each_line, arriving_still, pools_still, same_pools, still_permits, permits_trans, follow_trans, told_still, told_back}
-use Rattle.stock_actions.proofs.Stops.{stops_since}
-use Rattle.stock_actions.proofs.print.print.Goals as goal
+use Rattle.actions.specs.Acting.{ActStopped}
+use Rattle.actions.proofs.SameLines.{each_line, arriving_still, pools_still, same_pools, still_permits, permits_trans, follow_trans, told_still, told_back}
+use Rattle.actions.proofs.Stops.{stops_since}
+use Rattle.actions.proofs.print.print.Goals as goal
 
 pub print_all-requires-clause-own : goal.print_all-requires-clause-own
 print_all-requires-clause-own g c =

@@ -5,10 +5,10 @@ use Rattle.scatter.specs.Stocks.{lines_of}
 use Rattle.scatter.specs.Told.{AreTold, arriving}
 use Rattle.feed_actions.specs.declared.action.ActErr.{ActErr}
 use Rattle.feed_print.specs.Printing.{texts_of_rows}
-use Rattle.stock_actions.specs.Printing.{PrintedAll, NotAllPrinted}
-use Rattle.stock_actions.specs.Acting.{ActStopped}
-use Rattle.stock_actions.proofs.Stops.{flushed_stops, print_stops}
-use Rattle.stock_actions.proofs.print.print_all.Goals as goal
+use Rattle.actions.specs.Printing.{PrintedAll, NotAllPrinted}
+use Rattle.actions.specs.Acting.{ActStopped}
+use Rattle.actions.proofs.Stops.{flushed_stops, print_stops}
+use Rattle.actions.proofs.print.print_all.Goals as goal
 
 pub returns-in-Ok-clause-refused : goal.returns-in-Ok-clause-refused
 returns-in-Ok-clause-refused g c =

@@ -16,10 +16,10 @@ use Rattle.scatter.specs.Told.{AreTold}
 use Rattle.scatter.specs.Begun.{IsNew}
 use Rattle.scatter.proofs.Rooted.{root_new, root_ops, used, whole_again, GoesThrough}
 use Rattle.feed_actions.proofs.Counts.{follow_refl}
-use Rattle.stock_actions.specs.Printing.{rows_of_feeds, AreToldFeeds, CanPrint, HasPrinted}
-use Rattle.stock_actions.proofs.Grown.{first_none, printed_as}
-use Rattle.stock_actions.proofs.Roots.{can_print, told_feeds, rows_arrive}
-use Rattle.stock_actions.proofs.print.print_root.Goals as goal
+use Rattle.actions.specs.Printing.{rows_of_feeds, AreToldFeeds, CanPrint, HasPrinted}
+use Rattle.actions.proofs.Grown.{first_none, printed_as}
+use Rattle.actions.proofs.Roots.{can_print, told_feeds, rows_arrive}
+use Rattle.actions.proofs.print.print_root.Goals as goal
 
 pub returns-in_default-clause-prints : goal.returns-in_default-clause-prints
 returns-in_default-clause-prints g c = first_none g.S.Sink _ _ c.args.out.now c.args.buffer.now

@@ -3,7 +3,7 @@ use Rattle.row_defs.specs.declared.kind.Kind.TheVariants.{Int}
 use Rattle.block_pool.specs.Workers.{new_pool}
 use Rattle.hand_phase.proofs.Rounds.{each_own}
 use Rattle.feed_actions.proofs.Worked.{still_len}
-use Rattle.stock_actions.proofs.tests.act_with.Goals as goal
+use Rattle.actions.proofs.tests.act_with.Goals as goal
 
 pub act-requires-clause-actable : goal.act-requires-clause-actable
 act-requires-clause-actable g c = λ κs lives. (Int ∷ [], c.requires.sound, c.requires.actable)

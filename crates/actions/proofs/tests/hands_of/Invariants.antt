@@ -2,7 +2,7 @@ use Rattle.std.proofs.Common.{◌≡◌, length, vec_len}
 use Rattle.std.specs.Prelude.{vec_capacity}
 use Rattle.block_pool.specs.Workers.{new_pool}
 use Rattle.hand_phase.specs.Rounds.{AreHands}
-use Rattle.stock_actions.proofs.tests.hands_of.Given as goal
+use Rattle.actions.proofs.tests.hands_of.Given as goal
 
 abbrev pub invariant-loop-pass : goal.invariant-loop-pass
 invariant-loop-pass l = record {

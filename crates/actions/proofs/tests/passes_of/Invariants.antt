@@ -1,7 +1,7 @@
 use Rattle.std.proofs.Common.{◌≡◌, length, vec_len}
 use Rattle.std.specs.Prelude.{vec_capacity, All}
 use Rattle.block_pool.specs.Workers.{new_pool}
-use Rattle.stock_actions.proofs.tests.passes_of.Given as goal
+use Rattle.actions.proofs.tests.passes_of.Given as goal
 
 abbrev pub invariant-loop-hand : goal.invariant-loop-hand
 invariant-loop-hand l = record {

@@ -1,0 +1,12 @@
+pub mod Results
+pub mod ToldLemmas
+pub mod HandLemmas
+pub mod LineLemmas
+pub mod WeighLemmas
+pub mod StepLemmas
+pub mod ActLemmas
+pub mod CacheLemmas
+pub mod AskedLemmas
+pub mod TaskLemmas
+pub mod PlanLemmas
+pub mod PoolLemmas
