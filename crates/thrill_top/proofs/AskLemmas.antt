@@ -1,12 +1,11 @@
 -- Which inputs a run asks for.
-use Rattle.std.proofs.Common.{◌≡◌, ◌≢◌, ℕ, List, [], ◌∷◌, ◌++◌, Option, Some, Ok, refl, sym, ap, ◌∙◌, subst, append_assoc, append-nil}
+use Rattle.std.proofs.Common.{◌≡◌, ℕ, List, [], ◌∷◌, ◌++◌, refl, sym, ap, ◌∙◌, subst, append_assoc, append-nil}
 use Rattle.row_defs.specs.Inputs.{Inputs}
 use Rattle.script_defs.specs.Scripts.{Script}
-use Rattle.script_defs.specs.Reading.{reading_of}
 use Rattle.script_defs.specs.Needs.{inputs_needed}
 use Rattle.dia_edge.specs.Shelves.{and_asked}
 use Rattle.dia_edge.specs.declared.shelf.Shelf.{Ghosts}
-use Rattle.dia_edge.proofs.ShelfLemmas.{asked_none, asked_then}
+use Rattle.dia_edge.proofs.ShelfLemmas.{asked_then}
 use Rattle.dia_lines.specs.Inputs.{AskedBut, AskedSome}
 use Rattle.script_run.proofs.AskedLemmas.{asked_until}
 use Rattle.thrill_top.specs.Asking.{IsScriptAt}

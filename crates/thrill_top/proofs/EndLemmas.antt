@@ -1,6 +1,6 @@
 -- How the run of an accepted script ends, and whether it could have been done.
-use Rattle.std.proofs.Common.{◌≡◌, ◌⊎◌, inl, inr, ℕ, zero, suc, ◌<◌, ◌≤◌, List, [], ◌∷◌, drop, Option, None, Some, IfSome, Bool, true, Result, Ok, Err, refl, sym, ap, subst, ◌∙◌, arith}
-use Rattle.std.specs.Prelude.{All, Contains}
+use Rattle.std.proofs.Common.{◌≡◌, inl, inr, ℕ, zero, suc, List, [], ◌∷◌, drop, Option, None, Some, IfSome, true, refl, sym, ap, ◌∙◌, arith}
+use Rattle.std.specs.Prelude.{Contains}
 use Rattle.std.proofs.lemmas.List.Elements.{All-contains}
 use Rattle.row_defs.specs.Rows.{Row}
 use Rattle.row_defs.specs.Inputs.{Inputs, InputFailure, missing, line_too_long, input_too_long}
@@ -8,19 +8,16 @@ use Rattle.script_defs.specs.Scripts.{Script}
 use Rattle.script_defs.specs.Lists.{input_failure}
 use Rattle.script_defs.specs.Work.{Item, do_line, work_of}
 use Rattle.script_defs.specs.Runs.{failure_of, failure_of_statement}
-use Rattle.script_defs.specs.Ends.{IsStopped, IsTooMany}
-use Rattle.dia_edge.specs.Counts.{HasRisen}
+use Rattle.script_defs.specs.Ends.{IsStopped}
 use Rattle.stage_laws.specs.Standing.{EndsWith}
 use Rattle.script_run.specs.declared.run_err.RunErr.{RunErr}
 use Rattle.script_run.specs.declared.run_err.RunErr.TheVariants as errors
-use Rattle.script_run.specs.Errors.{ending_of, ending_in}
+use Rattle.script_run.specs.Errors.{ending_of}
 use Rattle.job_words.specs.declared.fault.TopFault.{TopFault}
 use Rattle.job_words.specs.declared.fault.TopFault.TheVariants as faults
-use Rattle.thrill_top.specs.Asking.{IsScriptAt}
 use Rattle.thrill_top.specs.Ends.{status_in}
-use Rattle.thrill_top.specs.Errors.{run_fault, run_end, Counts, TellsFault}
-use Rattle.thrill_top.specs.Promise.{RunEnd, IsAccepted, CallEnd, IsOpen, IsReadable, NoneRose, HasNoTooMany, IsWhole}
-use Rattle.thrill_top.proofs.ScriptLemmas.{same_script}
+use Rattle.thrill_top.specs.Errors.{run_fault, Counts, TellsFault}
+use Rattle.thrill_top.specs.Promise.{RunEnd, IsAccepted, CallEnd, IsOpen, IsReadable, NoneRose, IsWhole}
 
 -- the end that an error tells is the one of its fault; a pool that is too small is told before anything is done
 pub error_end : (W : List Row → Type 0) (script : Script) (inputs : Inputs) (e : RunErr) (took : List ℕ) → ((frames need : ℕ) → e ≡ errors.PoolTooSmall frames need → took ≡ [])

@@ -1,5 +1,5 @@
 -- What is promised where a script was read and run.
-use Rattle.std.proofs.Common.{◌≡◌, ◌≢◌, ◌⊎◌, inl, inr, ℕ, ◌/◌, ◌<◌, ◌≤◌, List, [], ◌∷◌, Bool, true, Option, None, Some, IfSome, IfErr, is_some, Result, Ok, Err, refl, sym, ap, subst, ◌∙◌, arith, append-nil}
+use Rattle.std.proofs.Common.{◌≡◌, ◌≢◌, ◌⊎◌, inl, inr, ℕ, ◌/◌, ◌<◌, ◌≤◌, List, [], ◌∷◌, Bool, Some, IfSome, IfErr, is_some, Result, Ok, Err, refl, sym, ap, subst, ◌∙◌, arith, append-nil}
 use Rattle.row_defs.specs.Inputs.{Inputs}
 use Rattle.script_defs.specs.Scripts.{Script}
 use Rattle.script_defs.specs.Needs.{inputs_needed}
@@ -9,7 +9,7 @@ use Rattle.dia_edge.specs.declared.sink.Sink as sinks
 use Rattle.dia_edge.specs.declared.disk.Disk as disks
 use Rattle.dia_edge.proofs.CountLemmas.{tells_since}
 use Rattle.dia_edge.proofs.SinkLemmas.{but_none, all_but}
-use Rattle.dia_lines.specs.Inputs.{Asks, AskedBut, AskedSome, Stays}
+use Rattle.dia_lines.specs.Inputs.{Asks, Stays}
 use Rattle.stage_laws.specs.Standing.{Ended, EndsWith}
 use Rattle.script_run.specs.declared.run_err.RunErr.{RunErr}
 use Rattle.script_run.specs.declared.run_err.RunErr.TheVariants as errors
@@ -23,7 +23,7 @@ use Rattle.job_words.specs.declared.fault.TopFault.TheVariants as faults
 use Rattle.thrill_top.specs.Asking.{IsScriptAt, AskedFor}
 use Rattle.thrill_top.specs.Ends.{status_in}
 use Rattle.thrill_top.specs.Errors.{run_fault, run_end, Counts, TellsFault}
-use Rattle.thrill_top.specs.Promise.{TellsInputs, RunEnd, EndsCall, IsReadable, IsSmall, IsSmallWith, IsLargeEnough, NoneRose, IsExcused, TellsScript, IsWhole, KeepsPromise}
+use Rattle.thrill_top.specs.Promise.{TellsInputs, RunEnd, IsReadable, IsSmall, IsSmallWith, IsLargeEnough, NoneRose, IsExcused, IsWhole, KeepsPromise}
 use Rattle.thrill_top.proofs.AskLemmas.{script_whole, script_cut}
 use Rattle.thrill_top.proofs.EndLemmas.{error_end, accepted_end, complete_end}
 use Rattle.thrill_top.proofs.ScriptLemmas.{never_there, never_refused, same_script}

@@ -1,5 +1,5 @@
 -- A name reads as one script, or is refused for one cause, or isn't there.
-use Rattle.std.proofs.Common.{◌≡◌, ◌⊎◌, inl, inr, ℕ, List, [], ◌∷◌, Option, None, Some, Result, Ok, Err, refl, sym, ap, subst, ◌∙◌}
+use Rattle.std.proofs.Common.{◌≡◌, ◌⊎◌, inl, inr, ℕ, List, None, Some, Result, Ok, Err, refl, sym, ap, subst, ◌∙◌}
 use Rattle.row_defs.specs.declared.cause.Cause.{Cause}
 use Rattle.row_defs.specs.Inputs.{Inputs}
 use Rattle.script_defs.specs.Scripts.{Script}

@@ -1,27 +1,24 @@
 -- What is promised where nothing was done, or no script was read.
-use Rattle.std.proofs.Common.{◌≡◌, ◌≢◌, ◌⊎◌, inl, inr, ℕ, List, [], ◌∷◌, Bool, Option, None, Some, IfSome, is_some, refl, sym, ap, subst, ◌∙◌, arith}
-use Rattle.row_defs.specs.declared.cause.Cause.{Cause}
+use Rattle.std.proofs.Common.{◌≡◌, ◌≢◌, inl, inr, ℕ, List, [], ◌∷◌, Bool, Some, is_some, refl, ap}
 use Rattle.row_defs.specs.Rows.{Row}
 use Rattle.row_defs.specs.Inputs.{Inputs}
 use Rattle.script_defs.specs.Scripts.{Script}
 use Rattle.script_defs.specs.Needs.{inputs_needed}
-use Rattle.dia_edge.specs.Shelves.{and_asked}
 use Rattle.dia_edge.specs.declared.shelf.Shelf as shelves
 use Rattle.dia_edge.specs.declared.sink.Sink as sinks
 use Rattle.dia_edge.specs.declared.disk.Disk as disks
 use Rattle.dia_edge.proofs.SinkLemmas.{but_none, all_but}
 use Rattle.dia_lines.specs.Inputs.{AskedSome}
-use Rattle.script_run.specs.Jobs.{TellsAll}
 use Rattle.script_run.specs.Weighing.{IsSpilled}
 use Rattle.script_run.proofs.AskedLemmas.{asked_no_one}
 use Rattle.job_words.specs.Faults.{fault_status}
 use Rattle.job_words.specs.declared.command.Job.{Job}
 use Rattle.job_words.specs.declared.fault.TopFault.{TopFault}
 use Rattle.job_words.specs.declared.fault.TopFault.TheVariants as faults
-use Rattle.thrill_top.specs.Asking.{IsScriptAt, AskedFor}
-use Rattle.thrill_top.specs.Ends.{IsUnread, IsReadFault, status_in}
+use Rattle.thrill_top.specs.Asking.{IsScriptAt}
+use Rattle.thrill_top.specs.Ends.{IsUnread, IsReadFault}
 use Rattle.thrill_top.specs.Errors.{Counts, TellsRead, TellsFault}
-use Rattle.thrill_top.specs.Promise.{TellsInputs, CallEnd, EndsCall, IsReadable, IsSmall, IsSmallWith, IsLargeEnough, NoneRose, IsExcused, TellsScript, IsWhole, KeepsPromise}
+use Rattle.thrill_top.specs.Promise.{TellsInputs, CallEnd, NoneRose, IsExcused, TellsScript, IsWhole, KeepsPromise}
 use Rattle.thrill_top.proofs.AskLemmas.{script_unread}
 use Rattle.thrill_top.proofs.EndLemmas.{whole_12}
 use Rattle.thrill_top.proofs.ScriptLemmas.{never_there, same_refusal, never_refused}

@@ -39,14 +39,8 @@ fn prints<R: Threads + Wait + Sync + Abort>(
     out: &[u8],
 ) -> Result<Seen, NoMemory> {
     let seen = see(rt, alloc, case, &OpenGate)?;
-    assert_eq!(rt;
-        (
-            seen.end.status,
-            text(seen.stdout.bytes()),
-            text(seen.stderr.bytes())
-        ),
-        (0, text(out), "")
-    );
+    assert_eq!(rt; (seen.end.status, seen.stderr.bytes().len()), (0, 0));
+    assert!(rt; seen.stdout.bytes() == out);
     Ok(seen)
 }
 

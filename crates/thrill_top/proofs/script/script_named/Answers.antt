@@ -1,4 +1,4 @@
-use Rattle.std.proofs.Common.{◌≡◌, ℕ, Result, sym, ap, subst, refl, ◌∙◌}
+use Rattle.std.proofs.Common.{ℕ, Result, sym, ap, subst, refl, ◌∙◌}
 use Rattle.row_defs.specs.declared.cause.Cause.{Cause}
 use Rattle.script_defs.specs.Scripts.{Script}
 use Rattle.script_defs.specs.Reading.{reading_of}
