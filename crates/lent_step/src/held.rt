@@ -14,6 +14,8 @@ pub(crate) struct Held<H, W> {
     pub(crate) work: W,
     /// The desk as it was at the start of the phase, of which a fault speaks. It has no bytes.
     pub(crate) began: Snapshot<H>,
+    /// Keeps what two workers write at each step on different lines of the cache: tasks lie side by side in a vector.
+    pub(crate) apart: [u64; 16],
 }
 
 impl<H, W> Held<H, W> {
@@ -23,7 +25,12 @@ impl<H, W> Held<H, W> {
         ensures began { result.began.value ≡ desk }
     {
         let began = Snapshot::of(&desk);
-        Held { desk, work, began }
+        Held {
+            desk,
+            work,
+            began,
+            apart: [0; 16],
+        }
     }
 }
 

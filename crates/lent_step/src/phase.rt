@@ -99,6 +99,7 @@ fn part_all<H: Drop, W: Drop>(tasks: Vec<Held<H, W>>, desks: &mut Vec<H>, works:
             desk,
             work,
             began: _,
+            apart: _,
         } = task;
         desks.push_reserved(desk);
         works.push_reserved(work);
