@@ -9,9 +9,10 @@ use Rattle.pool_core.specs.declared.refusals.PinErr.{PinErr}
 use Rattle.pool_core.specs.declared.refusals.PinErr.TheVariants.{Disk, Damaged, NoMemory}
 use Rattle.mix_stream.specs.Packets.{blocks_in}
 use Rattle.mix_stream.specs.Reading.{Reading, Drains, RefusesStream, blocks_of}
-use Rattle.mix_stream.specs.Streams.{pinned_of, reading_of, IsInside, IsSameBut}
+use Rattle.mix_stream.specs.Streams.{pinned_of, reading_of, IsInside, IsSameBut, Gives}
 use Rattle.mix_stream.specs.Moving.{IsMoved, Misses}
 use Rattle.mix_stream.specs.declared.stream.Stream.{Stream}
+use Rattle.mix_stream.specs.declared.stream.RowPlace.{RowPlace}
 use Rattle.mix_stream.proofs.Moved.{damaged_then, moved_refl, moved_then}
 
 pub pins_le : (o : Option PinnedValue) → length (pinned_of o) ≤ 1
@@ -31,18 +32,27 @@ drains_then a b c r s t h k = record {
   made = k.made ∙ h.made;
 }
 
-pub drains_same : (a b : HandValue) (r : Reading) (s t : Stream) → Drains a b r (reading_of s) → IsSameBut s t → Drains a b r (reading_of t)
-drains_same a b r s t h k =
-    let pinned : pinned_of t.shown ≡ pinned_of s.shown = ap pinned_of k.shown in
-    let blocks : blocks_of (reading_of t) ≡ blocks_of (reading_of s) = λ i. pinned_of (k.shown i) ++ blocks_in (k.packets i).items in
+-- the same blocks in another stream
+drains_alike :
+    (a b : HandValue) (r : Reading) (s t : Stream) → Drains a b r (reading_of s) → t.kinds ≡ s.kinds → t.shown ≡ s.shown → t.packets ≡ s.packets → Drains a b r (reading_of t)
+drains_alike a b r s t h kinds shown packets =
+    let pinned : pinned_of t.shown ≡ pinned_of s.shown = ap pinned_of shown in
+    let blocks : blocks_of (reading_of t) ≡ blocks_of (reading_of s) = λ i. pinned_of (shown i) ++ blocks_in (packets i).items in
     record {
-      kinds = ap kind_list k.kinds ∙ h.kinds;
+      kinds = ap kind_list kinds ∙ h.kinds;
       own = subst (λ (l : List BlockValue). AreOfPool b.pool l) (sym blocks) h.own;
       permits = ap (λ (l : List BlockValue). b.permits + length l) pinned ∙ h.permits;
       one = pins_le t.shown;
       freed = ap (λ (l : List BlockValue). b.notes.gone + length l) blocks ∙ h.freed;
       made = h.made;
     }
+
+pub drains_same : (a b : HandValue) (r : Reading) (s t : Stream) → Drains a b r (reading_of s) → IsSameBut s t → Drains a b r (reading_of t)
+drains_same a b r s t h k = drains_alike a b r s t h k.kinds k.shown k.packets
+
+-- a row is given of the block that is open
+pub drains_given : (a : HandValue) (s : Stream) (place : RowPlace) (t : Stream) → AreOfPool a.pool (blocks_of (reading_of s)) → Gives s place t → Drains a a (reading_of s) (reading_of t)
+drains_given a s place t own g = drains_alike a a (reading_of s) s t (drains_refl a s own) g.kinds g.shown g.packets
 
 pub misses_refuse : (a b : HandValue) (r : Reading) (e : PinErr) → Misses r e → RefusesStream a b r e
 misses_refuse a b r (Disk count) h = absurd h

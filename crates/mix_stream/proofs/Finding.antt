@@ -1,7 +1,7 @@
 -- Rows in what is open.
 use Rattle.std.proofs.Common.{◌≡◌, ℕ, ◌+◌, ◌-◌, ◌<◌, ◌≤◌, List, [], ◌++◌, length, take, drop, refl, sym, ap, ◌∙◌, subst, length-append, length-drop, lt_of_not-le, append-nil, append_assoc, eq-eqb, cond, Bool, arith}
-use Rattle.std.proofs.lemmas.List.{take-append-drop, take-append-le}
-use Rattle.std.proofs.Math.Seq.{drop-append-add, drop-length, length-take-le}
+use Rattle.std.proofs.lemmas.List.{drop-drop, take-append-drop, take-append-le}
+use Rattle.std.proofs.Math.Seq.{drop-append-add, drop-length, length-take-le, take-length}
 use native.Mathlib.Decide.{dec_le}
 use mathlib.Core.Logic.{dite}
 use Rattle.row_defs.specs.Rows.{Row, IsRow}
@@ -15,7 +15,6 @@ use Rattle.mix_stream.specs.Reading.{bytes_of, IsDamaged, StartsNoRow}
 use Rattle.mix_stream.specs.Streams.{shown_bytes, left_of, reading_of, IsInside, IsSameBut, Gives}
 use Rattle.mix_stream.specs.declared.stream.Stream.{Stream}
 use Rattle.mix_stream.specs.declared.stream.RowPlace.TheVariants.{InBlock, InBuffer}
-use Rattle.mix_stream.proofs.Bytes.{drop_more, take_whole}
 
 -- nothing was copied
 pub none_copied : (s : Stream) (l : List ℕ) → s.pending ≡ 0 → take s.pending s.buffer.items ++ l ≡ l
@@ -42,7 +41,7 @@ gives_block s n row rest inside free is some le f =
       is_row = is_spelled (kind_list s.kinds) (take n d) row here;
       some = omega (arith, ap length spells, long);
       lies = (fits, sym spells);
-      left = none_copied s d free ∙ sym (take-append-drop n d) ∙ ap (λ (l : List ℕ). l ++ drop n d) spells ∙ ap (λ (l : List ℕ). spelled row ++ l) (drop_more s.at n bytes ∙ sym (none_copied s (drop (s.at + n) bytes) free));
+      left = none_copied s d free ∙ sym (take-append-drop n d) ∙ ap (λ (l : List ℕ). l ++ drop n d) spells ∙ ap (λ (l : List ℕ). spelled row ++ l) (drop-drop n s.at bytes ∙ sym (none_copied s (drop (s.at + n) bytes) free));
     }
 
 -- a row that is found in the bytes copied and those of the block ends in the block
@@ -72,7 +71,7 @@ gives_buffer s t n row piece more inside some is parts positive le f kinds shown
     let all : t.buffer.items ++ more ≡ hs ++ d = ap (λ (l : List ℕ). l ++ more) is ∙ append_assoc hs piece more ∙ ap (λ (l : List ℕ). hs ++ l) parts in
     let spells : take n t.buffer.items ≡ spelled row = spelled_is (kind_list s.kinds) (take n t.buffer.items) row f in
     let front : take n (hs ++ d) ≡ spelled row = ap (take n) (sym all) ∙ take-append-le n t.buffer.items more le ∙ spells in
-    let tail : drop n (hs ++ d) ≡ drop (s.at + (n - k)) bytes = ap (λ (j : ℕ). drop j (hs ++ d)) m ∙ drop-append-add hs d (n - k) ∙ drop_more s.at (n - k) bytes in
+    let tail : drop n (hs ++ d) ≡ drop (s.at + (n - k)) bytes = ap (λ (j : ℕ). drop j (hs ++ d)) m ∙ drop-append-add hs d (n - k) ∙ drop-drop (n - k) s.at bytes in
     let here : left_of t ≡ drop (s.at + (n - k)) bytes = none_copied t (drop t.at (shown_bytes t.shown)) free ∙ (λ i. drop (at i) (shown_bytes (shown i))) in
     record {
       kinds = kinds;
@@ -98,7 +97,7 @@ pub copies_all :
     → t.buffer.items ≡ take s.pending s.buffer.items ++ rest → t.pending ≡ length t.buffer.items → t.at ≡ length (shown_bytes s.shown) → rest ≡ drop s.at (shown_bytes s.shown)
     → length t.buffer.items ≤ longest_row → StartsNoRow (kind_list s.kinds) t.buffer.items → IsSameBut s t
 copies_all s t rest kinds from shown packets is pending at back short none =
-    let whole : take t.pending t.buffer.items ≡ t.buffer.items = ap (λ (n : ℕ). take n t.buffer.items) pending ∙ take_whole t.buffer.items in
+    let whole : take t.pending t.buffer.items ≡ t.buffer.items = ap (λ (n : ℕ). take n t.buffer.items) pending ∙ take-length t.buffer.items in
     let end : drop t.at (shown_bytes t.shown) ≡ [] = (λ i. drop (at i) (shown_bytes (shown i))) ∙ drop-length (shown_bytes s.shown) in
     record {
       kinds = kinds;

@@ -96,6 +96,9 @@ gives_next pool s place t h =
       };
     }
 
+pub gives_rising : (s : Stream) (place : RowPlace) (t : Stream) → Gives s place t → Rises s.from s.packets.items → Rises t.from t.packets.items
+gives_rising s place t h r = subst (λ (k : ℕ). Rises k t.packets.items) (sym h.from) (subst (λ (x : _). Rises s.from x.items) (sym h.packets) r)
+
 pub next_then : (pool : PoolName) (r s : Reading) (place : RowPlace) (t : Stream) → IsMoved pool r s → GivesNext pool s place t → GivesNext pool r place t
 next_then pool r s place t h g = let n = g.next in record {
   row = g.row;

@@ -26,14 +26,17 @@ fn row_len(kinds: &Kinds, bytes: &[u8]) -> Option<usize>
     }
 }
 
-/// The row that lies whole in the rest of the block.
-#[inline]
-fn in_block(stream: &mut Stream) -> Option<RowPlace>
+/// The row that lies whole in the rest of the block, where none has begun before it.
+#[inline(always)]
+pub(crate) fn in_block(stream: &mut Stream) -> Option<RowPlace>
     requires inside { IsInside stream.old }
-    requires free { stream.old.pending ≡ 0 }
     ensures some { IfSome result (λ place. Gives stream.old place stream.new) }
-    ensures none { IfNone result ((stream.new ≡ stream.old) × StartsNoRow (kind_list stream.old.kinds) (drop stream.old.at (shown_bytes stream.old.shown))) }
+    ensures same { IfNone result (stream.new ≡ stream.old) }
+    ensures none { IfNone result (stream.old.pending ≡ 0 → StartsNoRow (kind_list stream.old.kinds) (drop stream.old.at (shown_bytes stream.old.shown))) }
 {
+    if stream.pending > 0 {
+        return None;
+    }
     let start = stream.at;
     let (_, rest) = bytes_shown(&stream.shown).split_at(start);
     let len = row_len(&stream.kinds, rest)?;
@@ -101,7 +104,6 @@ fn across(stream: &mut Stream) -> Result<Option<RowPlace>, PinErr>
 }
 
 /// The next row in what is open; where there is none, all of that was read or copied.
-#[inline]
 pub(crate) fn find(stream: &mut Stream) -> Result<Option<RowPlace>, PinErr>
     requires inside { IsInside stream.old }
     ensures some { IfOk result (λ o. IfSome o (λ place. Gives stream.old place stream.new)) }
@@ -109,14 +111,12 @@ pub(crate) fn find(stream: &mut Stream) -> Result<Option<RowPlace>, PinErr>
     ensures same { OnErr result (IsSameBut stream.old stream.new) }
     ensures refused { IfErr result (λ e. Misses (reading_of stream.old) e) }
 {
+    if let Some(place) = in_block(stream) {
+        return Ok(Some(place));
+    }
     if stream.pending > 0 {
         return across(stream);
     }
-    match in_block(stream) {
-        Some(place) => Ok(Some(place)),
-        None => {
-            copy_rest(stream)?;
-            Ok(None)
-        }
-    }
+    copy_rest(stream)?;
+    Ok(None)
 }

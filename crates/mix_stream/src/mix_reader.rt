@@ -6,6 +6,7 @@ ghost use Rattle.dia_item.specs.KindList.{kind_list};
 ghost use Rattle.dia_item.specs.Lent.{row_in_ref};
 ghost use Rattle.block_pool.specs.Handles.{AreOfPool, Follows};
 
+use crate::find::in_block;
 use crate::moves::{advance, close, free_all};
 use crate::stream::{Stream, row_at};
 use block_pool::{Hand, PinErr};
@@ -66,7 +67,7 @@ impl MixReader {
     /// After a refusal the reader stands where it stood, and the next call goes on from there. `Disk` comes only where the
     /// disk failed in this call, and `Damaged`, where the disk tells, only where the bytes that are left of some sender
     /// begin with no row.
-    #[inline]
+    #[inline(always)]
     pub fn next<'r, R: Wait, D: Disk>(
         &'r mut self,
         rt: &R,
@@ -84,6 +85,10 @@ impl MixReader {
             × (Rises self.old.from self.old.packets → Rises new.from new.packets)
             × Drains hand.old hand.new self.old new)) }
     {
+        // Most rows lie whole in the block that is pinned: they are found and lent in one look.
+        if let Some(place) = in_block(&mut self.stream) {
+            return Ok(Some(row_at(&self.stream, &place)));
+        }
         match advance(rt, hand, &mut self.stream) {
             Ok(Some(place)) => Ok(Some(row_at(&self.stream, &place))),
             Ok(None) => Ok(None),

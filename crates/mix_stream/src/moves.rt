@@ -120,8 +120,6 @@ fn open_first<R: Wait, D: Disk>(
 }
 
 /// Turns to the next packet: the block that was read is freed, and the next one is pinned. False where no packet is left.
-#[cold]
-#[inline(never)]
 fn turn_to_next<R: Wait, D: Disk>(
     rt: &R,
     hand: &mut Hand<'_, D>,
@@ -148,7 +146,8 @@ fn turn_to_next<R: Wait, D: Disk>(
 }
 
 /// The place of the next row; None at the end. After a refusal nothing is read.
-#[inline]
+#[cold]
+#[inline(never)]
 pub(crate) fn advance<R: Wait, D: Disk>(
     rt: &R,
     hand: &mut Hand<'_, D>,

@@ -7,7 +7,8 @@ use Rattle.dia_item.specs.Sizes.{longest_row}
 use Rattle.mix_stream.specs.Reading.{StartsNoRow}
 use Rattle.mix_stream.specs.Streams.{shown_bytes, left_of}
 use Rattle.mix_stream.specs.declared.stream.Stream.{Stream}
-use Rattle.mix_stream.proofs.Bytes.{starts_none, few_kinds}
+use Rattle.dia_file.proofs.PlaceLemmas.{few_kinds}
+use Rattle.mix_stream.proofs.Bytes.{starts_none}
 use Rattle.mix_stream.proofs.Finding.{gives_buffer, too_long}
 use Rattle.mix_stream.proofs.Turning.{some_if}
 use Rattle.mix_stream.proofs.find.across.Goals as goal

@@ -2,7 +2,8 @@ use Rattle.std.proofs.Common.{◌≡◌, ◌<◌, ℕ, List, [], length, drop, s
 use Rattle.dia_item.specs.KindList.{kind_list}
 use Rattle.dia_item.specs.Sizes.{longest_row}
 use Rattle.mix_stream.specs.Streams.{shown_bytes}
-use Rattle.mix_stream.proofs.Bytes.{starts_none, few_kinds}
+use Rattle.dia_file.proofs.PlaceLemmas.{few_kinds}
+use Rattle.mix_stream.proofs.Bytes.{starts_none}
 use Rattle.mix_stream.proofs.Finding.{none_copied, too_long}
 use Rattle.mix_stream.proofs.find.copy_rest.Goals as goal
 
