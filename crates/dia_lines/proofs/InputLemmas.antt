@@ -9,7 +9,7 @@ use Rattle.row_defs.specs.Pieces.{pieces_from, lines_of}
 use Rattle.row_defs.specs.Inputs.{is_long, line_too_long, input_too_long, failure_of_input, failure_of_long_line}
 use Rattle.dia_edge.specs.Shelves.{Holdings, GivesPrefix, IsShut, IsOpened, and_asked}
 use Rattle.dia_edge.specs.declared.shelf.Shelf as shelves
-use Rattle.dia_edge.proofs.ShelfLemmas.{asked_none}
+use Rattle.dia_edge.proofs.ShelfLemmas.{asked_none, gives_none, gives_then}
 use Rattle.dia_lines.specs.declared.line_taker.LineTaker.{Ghosts}
 use Rattle.dia_lines.specs.declared.cutter.Cutter.{Cutter}
 use Rattle.dia_lines.specs.declared.cutter.TakeErr.{TakeErr}
@@ -95,13 +95,6 @@ module _ {T D R : Type 0} (g : Ghosts T D R) where
       subst All whole (list_all-push h.done (b ∷ run) h.texts (le-leb (length (b ∷ run)) longest_text short))
 
   -- one more piece
-  prefix_more : (all left now : Option (List ℕ)) (seen piece : List ℕ) → GivesPrefix all seen left → GivesPrefix left piece now → GivesPrefix all (seen ++ piece) now
-  prefix_more None left now seen piece a b = tt
-  prefix_more (Some bytes) left now seen piece a b =
-      let Gives : Option (List ℕ) → Type 0 = λ o. GivesPrefix o piece now in
-      let c = subst Gives a.2 b in
-      (c.0, a.1 ∙ ap (λ (xs : List ℕ). seen ++ xs) c.1 ∙ sym (append_assoc seen piece c.0), c.2)
-
   pub reading_more : (all left now : Option (List ℕ)) (began t u : T) (c d : Cutter) (total n : ℕ) (piece : List ℕ) → IsReading g all began t c total left
       → GivesPrefix left piece now → length piece ≡ n → ((began : T) (seen : List ℕ) → HasTaken g began t c seen → HasTaken g began u d (seen ++ piece)) → IsReading g all began u d (total + n) now
   reading_more all left now began t u c d total n piece h gives len taken =
@@ -110,7 +103,7 @@ module _ {T D R : Type 0} (g : Ghosts T D R) where
         seen = h.seen ++ piece;
         taken = taken began h.seen h.taken;
         count = omega (arith, h.count);
-        prefix = prefix_more all left now h.seen piece h.prefix gives;
+        prefix = gives_then all left now h.seen piece h.prefix gives;
       }
 
   -- a line of the piece is too long, or was refused
@@ -120,7 +113,7 @@ module _ {T D R : Type 0} (g : Ghosts T D R) where
       → IfSome all (λ bytes. IsInputReason g began a u b (reason_of e) (Some bytes))
   reading_cut e None left now began t u a b c total piece h gives few cut = tt
   reading_cut (takes.LineTooLong n) (Some bytes) left now began t u a b c total piece h gives few cut =
-      let whole = prefix_more (Some bytes) left now h.seen piece h.prefix gives in
+      let whole = gives_then (Some bytes) left now h.seen piece h.prefix gives in
       let q = cut began h.seen h.taken in
       let parts : bytes ≡ (h.seen ++ q.prefix) ++ (q.rest ++ whole.0) =
       whole.1 ∙ ap (λ (xs : List ℕ). (h.seen ++ xs) ++ whole.0) q.parts
@@ -130,7 +123,7 @@ module _ {T D R : Type 0} (g : Ghosts T D R) where
       let cut_len = ap length q.parts ∙ length-append q.prefix q.rest in
       ap (λ (xs : List ℕ). failure_of_input (Some xs)) parts ∙ block_long n (h.seen ++ q.prefix) (q.rest ++ whole.0) (omega (arith, h.count)) q.reason
   reading_cut (takes.Refused e) (Some bytes) left now began t u a b c total piece h gives few cut =
-      let whole = prefix_more (Some bytes) left now h.seen piece h.prefix gives in
+      let whole = gives_then (Some bytes) left now h.seen piece h.prefix gives in
       let q = cut began h.seen h.taken in
       let parts : bytes ≡ (h.seen ++ q.prefix) ++ (q.rest ++ whole.0) =
       whole.1 ∙ ap (λ (xs : List ℕ). (h.seen ++ xs) ++ whole.0) q.parts
@@ -151,13 +144,9 @@ module _ {T D R : Type 0} (g : Ghosts T D R) where
       ap (λ (xs : List ℕ). failure_of_input (Some xs)) h.prefix.1
       ∙ block_past h.seen h.prefix.0 (h.count ∙ limit) (omega arith) (seen_texts began t c.ended c.run.items h.seen h.taken short)
 
-  prefix_none : (left : Option (List ℕ)) → GivesPrefix left [] left
-  prefix_none None = tt
-  prefix_none (Some bytes) = (bytes, refl, refl)
-
   -- nothing was read
   pub reading_none : (t : T) (c : Cutter) (left : Option (List ℕ)) → HasTaken g t t c [] → IsReading g left t t c 0 left
-  reading_none t c left taken = record { seen = []; taken = taken; count = refl; prefix = prefix_none left }
+  reading_none t c left taken = record { seen = []; taken = taken; count = refl; prefix = gives_none left }
 
   -- all was read
   pub reading_end : (all left : Option (List ℕ)) (began t u : T) (c : Cutter) (total : ℕ) → IsReading g all began t c total left → total ≤ longest_input

@@ -9,6 +9,7 @@ use Rattle.script_defs.specs.Reading.{Earlier, Known, known_after, nothing_known
 use Rattle.script_defs.specs.Sound.{earlier_numbered, kinds_of_earlier, kinds_numbered, kinds_of_form, kinds_of_statement, IsSound, IsSoundAction, IsSoundForm, IsSoundStatement}
 use Rattle.script_defs.specs.Plans.{known_behind, kinds_at}
 use Rattle.run_laws.proofs.WorkLemmas.{sound_placed}
+use Rattle.run_laws.proofs.RunLemmas.{some_statement}
 
 found_longer : (lines more : List Earlier) (n : ℕ) (e : Earlier) → find (λ (x : Earlier). eqb x.number n) lines ≡ Some e → find (λ (x : Earlier). eqb x.number n) (lines ++ more) ≡ Some e
 found_longer [] more n e is = let wrong : ⊥ = cc in absurd wrong
@@ -39,9 +40,6 @@ pub kinds_stay : (known : Known) (script : Script) (n : ℕ) → IsSome (earlier
 kinds_stay known script n some =
     let e = there (earlier_numbered known n) some in
     ap kinds_of_earlier (still_behind known script n e.0 e.1 ∙ sym e.1)
-
-some_statement : (a b : Statement) → Some a ≡ Some b → a ≡ b
-some_statement a b e = cc
 
 sound_here : (known : Known) (s : Statement) (action : Action) (script : Script) → IsSoundStatement known s → s ≡ act action
     → IsSoundAction (kinds_numbered (known_behind known script) (action_operand action)) action

@@ -1,5 +1,6 @@
 -- Runs go on item by item.
 use Rattle.std.proofs.Common.{◌≡◌, ℕ, zero, suc, ◌<◌, ◌≤◌, true, false, cond, eqb, List, [], ◌∷◌, ◌++◌, length, take, drop, Option, None, Some, is_some, IsSome, refl, sym, ap, ◌∙◌, subst, arith, inl, inr, append_assoc, append-nil}
+use Rattle.std.proofs.Math.Seq.{take-append_seam, drop-append_seam}
 use Rattle.std.specs.Prelude.{Contains, All, ◌↔◌, slice_index_or}
 use Rattle.std.specs.List.{AllByRecursion, flat_map}
 use Rattle.std.proofs.lemmas.Bool.{or_left, or_right, true≢false, eqb-true, eq-eqb, ne_eqb}
@@ -216,14 +217,6 @@ has_at (do_action n ∷ items) l zero less is = let wrong : ⊥ = cc in absurd w
 has_at (do_line n ∷ items) l (suc k) less is = or_right (eqb n l) (has_number (lines_among items) l) (has_at items l k (omega arith) is)
 has_at (do_action n ∷ items) l (suc k) less is = has_at items l k (omega arith) is
 
-take_prefix : {X : Type 0} (xs ys : List X) → take (length xs) (xs ++ ys) ≡ xs
-take_prefix [] ys = refl
-take_prefix (x ∷ xs) ys = ap (λ zs. x ∷ zs) (take_prefix xs ys)
-
-drop_prefix : {X : Type 0} (xs ys : List X) → drop (length xs) (xs ++ ys) ≡ ys
-drop_prefix [] ys = refl
-drop_prefix (x ∷ xs) ys = drop_prefix xs ys
-
 within_append : {X : Type 0} (xs ys : List X) → length xs ≤ length (xs ++ ys)
 within_append [] ys = omega arith
 within_append (x ∷ xs) ys = let less = within_append xs ys in omega arith
@@ -232,7 +225,7 @@ pub runs_are_runs : (script : Script) (inputs : Inputs) (lists : Lists) (done le
     → IsRun script inputs lists (length done) × (run_texts script lists (length done) ≡ texts_among script lists done)
     × (drop (length done) (work_of script) ≡ left)
 runs_are_runs script inputs lists done left w run =
-    let prefix : take (length done) (work_of script) ≡ done = ap (take (length done)) w.parts ∙ take_prefix done left in
+    let prefix : take (length done) (work_of script) ≡ done = ap (take (length done)) w.parts ∙ take-append_seam done left in
     let AllRight : List Item → Type 0 = λ items. All (IsRight script inputs lists) items in
     let AllFree : List Item → Type 0 = λ items. All (λ item. failure_of script inputs lists item ≡ None) items in
     let In : List Item → ℕ → Type 0 = λ items l. Contains items (do_line l) in
@@ -247,7 +240,7 @@ runs_are_runs script inputs lists done left w run =
         free = subst AllFree (sym prefix) (All-from_recursion (λ item. failure_of script inputs lists item ≡ None) done run.free);
       },
       ap (flat_map (item_text script lists)) prefix,
-      ap (drop (length done)) w.parts ∙ drop_prefix done left,
+      ap (drop (length done)) w.parts ∙ drop-append_seam done left,
     )
 
 -- chains -----------------------------------------------------------------------------------------------------------------
@@ -270,8 +263,15 @@ right_at script inputs lists (do_line m ∷ items) n all h = elim (or_cases (eqb
 ]
 right_at script inputs lists (do_action m ∷ items) n all h = right_at script inputs lists items n all.1 h
 
+-- what stands at one place
 pub some_statement : (x y : Statement) → Some x ≡ Some y → x ≡ y
 some_statement x y e = cc
+
+pub some_action : (x y : Action) → Some (act x) ≡ Some (act y) → x ≡ y
+some_action x y e = cc
+
+pub some_form : (name defined : List ℕ) (x y : Form) → Some (line name x) ≡ Some (line defined y) → x ≡ y
+some_form name defined x y e = cc
 
 operand_done : (script : Script) (done : List Item) (root m : ℕ) (op : LocalOp) (name : List ℕ) → AllByRecursion (IsReady script (lines_among done)) done
     → statement_at script m ≡ Some (line name (local_form root op)) → has_number (lines_among done) m ≡ true → has_number (lines_among done) root ≡ true

@@ -17,7 +17,7 @@ use Rattle.script_defs.specs.Ends.{too_many, cut_off, IsTooMany}
 use Rattle.dia_edge.specs.Sinks.{TookAll, TookPrefix}
 use Rattle.run_laws.specs.Order.{lines_among, IsReadyAction, InWork}
 use Rattle.run_laws.specs.Laws.{IsRunOf, texts_among}
-use Rattle.run_laws.proofs.RunLemmas.{goes_on, action_goes_on, runs_are_runs, roots_are_done, chains_make, right_at, lines_push_action, some_rows}
+use Rattle.run_laws.proofs.RunLemmas.{goes_on, action_goes_on, runs_are_runs, roots_are_done, chains_make, right_at, lines_push_action, some_rows, some_action}
 use Rattle.stage_laws.specs.Standing.{Kept, AreKept, is_read, KeepsBut, AreListed, HasRows, AreAtRoot, AllCached, StillHolds, GoesOn, Stops, KeepsOn, IsActing}
 use Rattle.stage_laws.proofs.EndLemmas.{cached_first}
 
@@ -58,9 +58,6 @@ still_listed lists root last kept now but are = λ m rows there. elim (but m) [
   | inl same ↦ are m rows (sym same ∙ there)
   | inr gone ↦ (let both : None ≡ Some rows = sym gone.2 ∙ there in let wrong : ⊥ = cc in absurd wrong)
 ]
-
-some_action : (x y : Action) → Some (act x) ≡ Some (act y) → x ≡ y
-some_action x y e = cc
 
 operand_has : (script : Script) (done : List ℕ) (n : ℕ) (action : Action) → IsReadyAction script done n → statement_at script n ≡ Some (act action)
     → has_number done (action_operand action) ≡ true

@@ -17,7 +17,7 @@ use Rattle.dia_edge.specs.Sinks.{TookAll}
 use Rattle.run_laws.specs.Order.{lines_among, IsReadyLine, InWork}
 use Rattle.run_laws.specs.Laws.{texts_among, with_list}
 use Rattle.run_laws.proofs.WorkLemmas.{has_cases, is_one}
-use Rattle.run_laws.proofs.RunLemmas.{line_goes_on, runs_are_runs, grows_with, lines_push_line, some_there, some_rows, listed_there}
+use Rattle.run_laws.proofs.RunLemmas.{line_goes_on, runs_are_runs, grows_with, lines_push_line, some_there, some_rows, listed_there, some_form}
 use Rattle.stage_laws.specs.Standing.{Kept, KeepsOneMore, AreKept, AreListed, AllCached, StillHolds, EndsWith, IsAt, GoesOn, Stops, KeepsOn}
 use Rattle.stage_laws.proofs.EndLemmas.{cached_first}
 
@@ -69,9 +69,6 @@ input_fails W script told n name input cause kept taken is fails = λ inputs beg
 
 still_listed : (lists : Lists) (n : ℕ) (rows : List Row) → is_some (lists n) ≡ false → (kept : Kept) → AreListed lists kept → AreListed (with_list lists n rows) kept
 still_listed lists n rows none kept all = λ m held is. grows_with lists n rows none m (some_there (lists m) held (all m held is)) ∙ all m held is
-
-some_form : (name defined : List ℕ) (x y : Form) → Some (line name x) ≡ Some (line defined y) → x ≡ y
-some_form name defined x y e = cc
 
 -- what is known of the rows of caches, behind a line that has this list
 cached_push : (W W' : List Row → Type 0) (script : Script) (lists : Lists) (done : List Item) (n : ℕ) (name : List ℕ) (form : Form) (rows : List Row) → StillHolds W W'

@@ -35,17 +35,14 @@ record IsSplit (script : Script) (left : List Item) (item : Item) (items : List 
   still : Quiet script quiet
   later : items ≡ filter (is_stage script) rest
 
-same_first : (x y : Item) (xs ys : List Item) → x ∷ xs ≡ y ∷ ys → (x ≡ y) × (xs ≡ ys)
-same_first x y xs ys e = (cc, cc)
-
 split : (script : Script) (left : List Item) (item : Item) (items : List Item) → item ∷ items ≡ filter (is_stage script) left → IsSplit script left item items
 split script [] item items is = let wrong : ⊥ = cc in absurd wrong
 split script (x ∷ left) item items is =
     elim (is_stage script x) as (λ t. is_stage script x ≡ t → item ∷ items ≡ cond t (x ∷ filter (is_stage script) left) (filter (is_stage script) left)
     → IsSplit script (x ∷ left) item items) [
       | true ↦ λ yes e.
-          let same = same_first item x items (filter (is_stage script) left) e in
-          record { quiet = []; rest = left; parts = ap (λ (y : Item). y ∷ left) (sym same.0); still = tt; later = same.1 }
+          let first : item ≡ x = cc in
+          record { quiet = []; rest = left; parts = ap (λ (y : Item). y ∷ left) (sym first); still = tt; later = cc }
       | false ↦ λ no e.
           let s = split script left item items e in
           record { quiet = x ∷ s.quiet; rest = s.rest; parts = ap (λ (xs : List Item). x ∷ xs) s.parts; still = (no, s.still); later = s.later }

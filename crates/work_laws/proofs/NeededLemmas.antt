@@ -9,7 +9,7 @@ use Rattle.script_defs.specs.Reading.{Earlier, Known, known_after, nothing_known
 use Rattle.script_defs.specs.Sound.{IsSound, IsSoundForm, IsSoundStatement, kinds_of_statement}
 use Rattle.script_defs.specs.Work.{Item, do_line, do_action, has_number, closure, is_line, lines_to_do, work_from, work_of}
 use Rattle.run_laws.proofs.WorkLemmas.{has_cases, sound_placed}
-use Rattle.run_laws.proofs.RunLemmas.{every_push}
+use Rattle.run_laws.proofs.RunLemmas.{every_push, some_statement, some_action, some_form}
 use Rattle.work_laws.specs.Needed.{IsIn, Names, Leads, IsNeeded}
 use Rattle.work_laws.specs.Ordered.{actions_in}
 use Rattle.work_laws.proofs.OrderLemmas.{Among, in_among, among_in, among_left, among_cases, has_among, all_at, action_among, work_behind, work_actions}
@@ -73,9 +73,6 @@ leads_push script a (n ∷ path) b c h names = (h.0, leads_push script n path b 
 -- a line that a path leads to
 abbrev IsLed : Script → ℕ → ℕ → Type 0
 IsLed script a b = IsLineIn script b × (path : List ℕ) × Leads script a path b
-
-some_statement : (x y : Statement) → Some x ≡ Some y → x ≡ y
-some_statement x y e = cc
 
 led_further : (script : Script) (a : ℕ) (s : Numbered) (m : ℕ) → IsPlaced script s → IsLed script a s.number → Among m (operands_of s.statement) → IsLed script a m
 led_further script a s m placed led there =
@@ -187,12 +184,6 @@ before_in script x before after e h =
     let There : List Item → Type 0 = λ xs. Among x xs in
     among_in x (work_of script) (subst There (sym e) (among_left x before after (in_among x before h)))
 
-some_action : (x y : Action) → Some (act x) ≡ Some (act y) → x ≡ y
-some_action x y e = cc
-
-line_forms : (a b : List ℕ) (f g : Form) → Some (line a f) ≡ Some (line b g) → f ≡ g
-line_forms a b f g e = cc
-
 operand_done : (script : Script) → IsSound nothing_known 1 script → (k : ℕ) (action : Action) → statement_at script k ≡ Some (act action)
     → IsIn (do_line (action_operand action)) (work_of script)
 operand_done script sound k action e =
@@ -205,7 +196,7 @@ operand_done script sound k action e =
 named_done : (script : Script) → IsSound nothing_known 1 script → (a b : ℕ) → IsIn (do_line a) (work_of script) → Names script a b → IsIn (do_line b) (work_of script)
 named_done script sound a b i names =
     let behind = work_behind script sound i.0 i.1 (do_line a) i.2 in
-    let same : names.1 ≡ behind.1 = line_forms names.0 behind.0 names.1 behind.1 (sym names.2 ∙ behind.2) in
+    let same : names.1 ≡ behind.1 = some_form names.0 behind.0 names.1 behind.1 (sym names.2 ∙ behind.2) in
     let There : Form → Type 0 = λ f. IsIn b (form_operands f) in
     before_in script (do_line b) i.0 (do_line a ∷ i.1) i.2 (behind.3 b (subst There same names.3))
 
