@@ -1,11 +1,11 @@
 -- An expression has at most one kind, and it is the one that the forms give.
-use Rattle.std.proofs.Common.{◌≡◌, length, List, Option, None, Some, Bool, true, false, ◌&&◌, IsSome, refl, sym, ◌∙◌, subst}
+use Rattle.std.proofs.Common.{◌≡◌, length, List, Option, None, Some, Bool, true, false, ◌&&◌, ◌||◌, IsSome, refl, sym, ap, ◌∙◌, subst}
 use Rattle.std.proofs.lemmas.Bool.{lt-leb}
 use Rattle.std.proofs.lemmas.Option.{slice_get_within}
 use Rattle.row_defs.specs.declared.kind.Kind.{Kind}
 use Rattle.row_defs.specs.declared.kind.Kind.TheVariants.{Int, Text}
 use Rattle.row_defs.specs.Values.{Expr, column, number, literal, math, is_zero, compare, choose, len, num, spelled, part, expr_kind, is_int, is_text, are_alike, kind_where, lacks_column}
-use Rattle.dia_expr.specs.Typing.{HasKind}
+use Rattle.dia_expr.specs.Typing.{HasKind, is_numeric}
 
 pub HasKind-unique : (kinds : List Kind) (e : Expr) (k l : Kind) → HasKind kinds e k → HasKind kinds e l → k ≡ l
 HasKind-unique kinds (column i) k l p q = cc
@@ -116,3 +116,29 @@ no_kind kinds e lacks = go (expr_kind kinds e) refl
     go : (k : Option Kind) → expr_kind kinds e ≡ k → k ≡ None
     go None is = refl
     go (Some k) is = absurd (cc (lacks, HasKind-columns kinds e k (HasKind-from kinds e k is)))
+
+either_from : (a b : Bool) (P : Type 0) → (a || b) ≡ true → (a ≡ true → P) → (b ≡ true → P) → P
+either_from true b P is p q = p refl
+either_from false b P is p q = q is
+
+-- an expression whose form tells that it makes numbers makes some wherever it has a kind
+pub numeric_kind : (kinds : List Kind) (e : Expr) (k : Kind) → is_numeric e ≡ true → HasKind kinds e k → k ≡ Int
+numeric_kind kinds (column i) k is h = absurd cc
+numeric_kind kinds (number n) k is h = h
+numeric_kind kinds (literal t) k is h = absurd cc
+numeric_kind kinds (math op a b) k is h = h.0
+numeric_kind kinds (is_zero a) k is h = h.0
+numeric_kind kinds (compare op x y) k is h = h.0
+numeric_kind kinds (choose c x y) k is h =
+    either_from (is_numeric x) (is_numeric y) (k ≡ Int) is (λ e. numeric_kind kinds x k e h.1) (λ e. numeric_kind kinds y k e h.2)
+numeric_kind kinds (len t) k is h = h.0
+numeric_kind kinds (num t) k is h = h.0
+numeric_kind kinds (spelled a) k is h = absurd cc
+numeric_kind kinds (part op a t) k is h = absurd cc
+
+pub numeric_int : (kinds : List Kind) (e : Expr) → is_numeric e ≡ true → IsSome (expr_kind kinds e) → expr_kind kinds e ≡ Some Int
+numeric_int kinds e is some = go (expr_kind kinds e) refl some
+  where
+    go : (k : Option Kind) → expr_kind kinds e ≡ k → IsSome k → expr_kind kinds e ≡ Some Int
+    go None at some = absurd cc
+    go (Some k) at some = at ∙ ap Some (numeric_kind kinds e k is (HasKind-from kinds e k at))

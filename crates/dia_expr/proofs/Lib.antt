@@ -6,3 +6,4 @@ pub mod ReadLemmas
 pub mod FaultLemmas
 pub mod ValueLemmas
 pub mod SpellingLemmas
+pub mod DivisorLemmas

@@ -5,3 +5,5 @@ pub mod Typing
 pub mod Runs
 pub mod Digits
 pub mod Laws
+pub mod Nodes
+pub mod Formulas

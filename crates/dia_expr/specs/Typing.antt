@@ -1,5 +1,5 @@
 -- Expressions that have a kind, form by form.
-use Rattle.std.specs.Prelude.{◌≡◌, List, Some, slice_get}
+use Rattle.std.specs.Prelude.{◌≡◌, Bool, true, false, ◌||◌, List, Some, slice_get}
 use Rattle.row_defs.specs.declared.kind.Kind.{Kind}
 use Rattle.row_defs.specs.declared.kind.Kind.TheVariants.{Int, Text}
 use Rattle.row_defs.specs.Values.{Expr, column, number, literal, math, is_zero, compare, choose, len, num, spelled, part}
@@ -22,3 +22,17 @@ HasKind kinds (part op a t) kind = (kind ≡ Text) × HasKind kinds a Int × Has
 abbrev pub ComparesTexts : List Kind → Expr → Type 0
 ComparesTexts kinds (compare op x y) = HasKind kinds x Text × HasKind kinds y Text
 ComparesTexts kinds _ = ⊥
+
+-- the form alone tells that the expression makes numbers
+abbrev pub is_numeric : Expr → Bool
+is_numeric (column i) = false
+is_numeric (number n) = true
+is_numeric (literal t) = false
+is_numeric (math op a b) = true
+is_numeric (is_zero a) = true
+is_numeric (compare op x y) = true
+is_numeric (choose c x y) = is_numeric x || is_numeric y
+is_numeric (len t) = true
+is_numeric (num t) = true
+is_numeric (spelled a) = false
+is_numeric (part op a t) = false

@@ -44,7 +44,7 @@ fn kind_in_both(x: &Expr, y: &Expr, row: &RowRef<'_>) -> Kind
 
 /// A column of kind Int.
 #[inline(always)]
-fn int_column(row: &RowRef<'_>, i: u32) -> u64
+pub(crate) fn int_column(row: &RowRef<'_>, i: u32) -> u64
     requires { slice_get (kinds_of (row_in_ref row.now)) i ≡ Some Int }
     ensures { slice_index_or (row_in_ref row.now) i (int 0) ≡ int result }
 {
@@ -85,7 +85,7 @@ fn int_of<'a>(expr: &'a Expr, row: &RowRef<'a>) -> u64
 /// The same where it may take more than a look.
 #[inline(never)]
 #[cycle(values)]
-fn int_made<'a>(expr: &'a Expr, row: &RowRef<'a>) -> u64
+pub(crate) fn int_made<'a>(expr: &'a Expr, row: &RowRef<'a>) -> u64
     requires { HasKind (kinds_of (row_in_ref row.now)) (expr_in expr.now) Int }
     ensures { value_of (expr_in expr.now) (row_in_ref row.now) ≡ int result }
 {

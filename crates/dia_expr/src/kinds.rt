@@ -4,6 +4,7 @@ ghost use Rattle.std.specs.Result.{result_ok, IsErrOf};
 ghost use Rattle.row_defs.specs.Values.{expr_kind, lacks_column, is_int, is_text, are_alike, kind_where};
 ghost use Rattle.dia_item.specs.KindList.{kind_list};
 ghost use Rattle.dia_expr.specs.Exprs.{expr_in};
+ghost use Rattle.dia_expr.specs.Typing.{is_numeric};
 
 use crate::expr::Expr;
 use dia_item::{Kind, Kinds};
@@ -58,6 +59,19 @@ fn lacks_column(expr: &Expr, columns: usize) -> bool
         Expr::If(c, x, y) => {
             lacks_column(c, columns) || lacks_column(x, columns) || lacks_column(y, columns)
         }
+    }
+}
+
+/// Whether the form alone tells that an expression makes numbers: wherever it has a kind, that is `Kind::Int`. A column
+/// may be of either kind.
+pub fn is_numeric(expr: &Expr) -> bool
+    ensures { result ≡ is_numeric (expr_in expr.now) }
+{
+    match expr {
+        Expr::Number(_) | Expr::Math(..) | Expr::Not(_) | Expr::Compare(..) => true,
+        Expr::Len(_) | Expr::Num(_) => true,
+        Expr::If(_, x, y) => is_numeric(x) || is_numeric(y),
+        Expr::Column(_) | Expr::Literal(_) | Expr::Text(_) | Expr::Part(..) => false,
     }
 }
 

@@ -7,7 +7,7 @@ use crate::expr::{Comparison, Math};
 use std::cmp::Ordering;
 
 /// What is made of two numbers.
-#[inline]
+#[inline(always)]
 pub(crate) fn math(op: Math, a: u64, b: u64) -> u64
     ensures { result ≡ math_value (math_in op) a b }
 {

@@ -1,7 +1,9 @@
 //! Worked expressions.
 ghost use Rattle.std.specs.Prelude.{◌<◌, length, IfOk};
 
-use crate::{Expr, ExprErr, KindErr, eval, eval_int, kind_of, read_exprs, read_one};
+use crate::{
+    Expr, ExprErr, Formula, KindErr, eval, eval_int, is_numeric, kind_of, read_exprs, read_one,
+};
 use dia_edge::NoMemory;
 use dia_item::{Field, Kind, RowBuf, RowRef};
 use std::alloc::Global;
@@ -32,6 +34,7 @@ fn is_worth(alloc: Global, text: &[u8], row: RowRef<'_>, want: Field<'_>) -> Res
     let mut value = RowBuf::new(alloc)?;
     match kind_of(expr, &row.kinds()) {
         Ok(Kind::Int) if Field::Int(eval_int(expr, row)) != want => Ok(false),
+        Ok(Kind::Int) if Field::Int(Formula::of(alloc, expr)?.value(&row)) != want => Ok(false),
         Ok(_) => {
             eval(expr, row, &mut value);
             Ok(value.row().field(0) == want)
@@ -43,8 +46,12 @@ fn is_worth(alloc: Global, text: &[u8], row: RowRef<'_>, want: Field<'_>) -> Res
 #[test]
 fn numbers_are_computed(rt: HostRuntime) -> Result<(), Fail> {
     let row = row_of_six(rt.alloc())?;
-    let cases: [(&[u8], u64); 35] = [
+    let cases: [(&[u8], u64); 39] = [
         (b"f1", 5),
+        (b"mod f2 f1", 0),
+        (b"mod mul f2 f1 1000003", 350_682),
+        (b"div add f2 f1 3", 1),
+        (b"sub 9 add f1 mul 2 3", MOST - 1),
         (b"18446744073709551615", MOST),
         (b"007", 7),
         (b"add f2 1", 0),
@@ -175,6 +182,25 @@ fn a_missing_column_comes_before_a_wrong_kind(rt: HostRuntime) -> Result<(), Fai
         let exprs = read_exprs(rt.alloc(), text).map_err(|_| NoMemory)?;
         for expr in exprs.as_slice() {
             assert_eq!(rt; kind_of(expr, &row.row().kinds()), Err(want));
+        }
+    }
+    Ok(())
+}
+
+#[test]
+fn the_form_tells_where_numbers_are_made(rt: HostRuntime) -> Result<(), Fail> {
+    let cases: [(&[u8], bool); 6] = [
+        (b"f1", false),
+        (b"7", true),
+        (b"not f1", true),
+        (b"text f1", false),
+        (b"if f1 f0 len f0", true),
+        (b"if f1 f0 'ab", false),
+    ];
+    for (text, want) in cases {
+        let exprs = read_exprs(rt.alloc(), text).map_err(|_| NoMemory)?;
+        for expr in exprs.as_slice() {
+            assert_eq!(rt; is_numeric(expr), want);
         }
     }
     Ok(())

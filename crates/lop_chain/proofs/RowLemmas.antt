@@ -5,12 +5,13 @@ use Rattle.row_defs.specs.Rows.{int, Row}
 use Rattle.row_defs.specs.Texts.{words_in_text}
 use Rattle.row_defs.specs.Values.{column, value_of, number_in}
 use Rattle.row_defs.specs.LocalOps.{LocalOp, with_word, raised, rows_through}
-use Rattle.lop_chain.specs.declared.script_op.ScriptOp.{ScriptOp}
-use Rattle.lop_chain.specs.Ops.{ops_in, rows_from}
+use Rattle.lop_chain.specs.declared.step.Step.{Step}
+use Rattle.lop_chain.specs.Ops.{rows_from}
+use Rattle.lop_chain.specs.Steps.{steps_in}
 
-pub through_none : (ops : List ScriptOp) (row : Row) → length ops ≡ 0 → rows_through (ops_in ops) row ≡ row ∷ []
+pub through_none : (steps : List Step) (row : Row) → length steps ≡ 0 → rows_through (steps_in steps) row ≡ row ∷ []
 through_none [] row e = refl
-through_none (op ∷ ops) row e = absurd (omega arith)
+through_none (step ∷ steps) row e = absurd (omega arith)
 
 pub next_word :
     (ops : List LocalOp) (row : Row) (c : ℕ) (text word after : List ℕ) → words_in_text text ≡ word ∷ words_in_text after

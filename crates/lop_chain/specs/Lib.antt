@@ -7,3 +7,5 @@ pub mod Ops
 pub mod OpLemmas
 pub mod Chains
 pub mod Operands
+pub mod Columns
+pub mod Steps

@@ -1,6 +1,6 @@
 -- The local lines of the definitions that code stands for.
-use Rattle.std.specs.Prelude.{ℕ, Bool, true, false, List, map}
-use Rattle.std.specs.List.{flat_map, count_by}
+use Rattle.std.specs.Prelude.{List, map}
+use Rattle.std.specs.List.{flat_map}
 use Rattle.row_defs.specs.Rows.{Row}
 use Rattle.row_defs.specs.Values.{Expr, value_of}
 use Rattle.row_defs.specs.LocalOps.{LocalOp, map_op, filter_op, words_op, spread_op, rows_through}
@@ -28,11 +28,3 @@ values_of exprs row = map (λ e. value_of e row) exprs
 -- the rows that come of these rows
 abbrev pub rows_from : List LocalOp → List Row → List Row
 rows_from ops rows = flat_map (rows_through ops) rows
-
--- whether a line makes rows of its own, and so has a buffer
-abbrev pub makes_rows : ScriptOp → Bool
-makes_rows (Filter e) = false
-makes_rows _ = true
-
-abbrev pub buffers_needed : List ScriptOp → ℕ
-buffers_needed ops = count_by makes_rows ops

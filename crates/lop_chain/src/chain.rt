@@ -5,34 +5,36 @@ ghost use Rattle.row_defs.specs.LocalOps.{rows_through, AreSoundOps};
 ghost use Rattle.dia_item.specs.Lent.{row_in_ref};
 ghost use Rattle.lop_chain.specs.Rows.{Kinds};
 ghost use Rattle.lop_chain.specs.Calls.{TookRows, TookSome};
-ghost use Rattle.lop_chain.specs.Ops.{ops_in, buffers_needed};
+ghost use Rattle.lop_chain.specs.Ops.{ops_in};
+ghost use Rattle.lop_chain.specs.Steps.{buffers_needed};
 ghost use Rattle.lop_chain.specs.OpLemmas.{made_sound};
 
 use crate::local_op::LocalOp;
-use crate::push::push_through;
+use crate::push::push_through_all;
 use crate::script_op::ScriptOp;
 use crate::sink::RowSink;
+use crate::step::{Step, steps_of};
 use dia_edge::NoMemory;
 use dia_item::{RowBuf, RowRef};
 use std::alloc::Global;
 use std::sync::Wait;
 
-/// Local lines, one after the other, with a row buffer for each line that makes rows, had at the making of the chain:
-/// a push takes no memory.
+/// Local lines, one after the other, made ready, with a row buffer for each line that makes rows, had at the making of
+/// the chain: a push takes no memory.
 #[derive(Drop)]
 pub struct Chain {
-    ops: Vec<ScriptOp>,
+    steps: Vec<Step>,
     buffers: Vec<RowBuf>,
-    ghost enough: { buffers_needed ops.items ≤ vec_len buffers },
+    ghost enough: { buffers_needed steps.items ≤ vec_len buffers },
 }
 
 /// A buffer for each of the lines that make rows.
-fn buffers_for(alloc: Global, ops: &[ScriptOp]) -> Result<Vec<RowBuf>, NoMemory>
-    ensures { IfOk result (λ buffers. vec_len buffers ≡ buffers_needed ops.now) }
+fn buffers_for(alloc: Global, steps: &[Step]) -> Result<Vec<RowBuf>, NoMemory>
+    ensures { IfOk result (λ buffers. vec_len buffers ≡ buffers_needed steps.now) }
 {
     let mut buffers = Vec::new(alloc);
-    for op in ops {
-        if op.makes_rows() {
+    for step in steps {
+        if step.makes_rows() {
             buffers.push(RowBuf::new(alloc)?)?;
         }
     }
@@ -46,15 +48,9 @@ impl Chain {
     pub fn new(alloc: Global, ops: Vec<ScriptOp>) -> Result<Chain, NoMemory>
         ensures { IfOk result (λ chain. chain_ops chain ≡ ops_in ops.items) }
     {
-        let buffers = buffers_for(alloc, ops.as_slice())?;
-        Ok(Chain { ops, buffers })
-    }
-
-    /// The lines.
-    pub fn ops(&self) -> &[ScriptOp]
-        ensures { ops_in result.now ≡ chain_ops self.now }
-    {
-        self.ops.as_slice()
+        let steps = steps_of(alloc, ops.as_slice())?;
+        let buffers = buffers_for(alloc, steps.as_slice())?;
+        Ok(Chain { steps, buffers })
     }
 
     /// Pushes the rows that the lines make of a row into a sink, in order; the lines stay. The only refusal is the sink's
@@ -75,9 +71,9 @@ impl Chain {
         ensures follows { S.follows desk.old desk.new }
         ensures stays { S.stays sink.old sink.new }
     {
-        push_through(
+        push_through_all(
             rt,
-            self.ops.as_slice(),
+            self.steps.as_slice(),
             self.buffers.as_mut_slice(),
             &row,
             desk,

@@ -1,40 +1,13 @@
-//! Rows that are made of a row.
-ghost use Rattle.std.specs.Prelude.{◌≡◌, ◌≤◌, ◌<◌, ◌+◌, ◌++◌, ◌∷◌, [], length, slice_get, slice_set, Some};
+//! Rows that are a row with another field.
+ghost use Rattle.std.specs.Prelude.{◌≡◌, ◌≤◌, ◌<◌, ◌++◌, ◌∷◌, [], length, slice_get, slice_set, Some};
 ghost use Rattle.row_defs.specs.declared.kind.Kind.TheVariants.{Int, Text};
 ghost use Rattle.row_defs.specs.Rows.{kinds_of, Fits};
-ghost use Rattle.row_defs.specs.Limits.{longest_text, most_columns};
+ghost use Rattle.row_defs.specs.Limits.{longest_text};
 ghost use Rattle.row_defs.specs.Values.{column as column_of, value_of, number_in, bytes_in};
-ghost use Rattle.row_defs.specs.LocalOps.{map_op, HaveKinds, IsSoundOp, op_kinds};
 ghost use Rattle.dia_item.specs.Fields.{cell_of};
 ghost use Rattle.dia_item.specs.Lent.{row_in_ref};
-ghost use Rattle.lop_chain.specs.Ops.{exprs_in, values_of};
 
-use dia_expr::{Expr, eval_ref};
 use dia_item::{Field, RowBuf, RowRef};
-
-/// The values of the expressions on a row, as further columns.
-fn append_values(exprs: &[Expr], row: &RowRef<'_>, into: &mut RowBuf)
-    requires kinds { HaveKinds (kinds_of (row_in_ref row.now)) (exprs_in exprs.now) }
-    requires room { length into.old + length exprs.now ≤ most_columns }
-    ensures { into.new ≡ into.old ++ values_of (exprs_in exprs.now) (row_in_ref row.now) }
-{
-    let Some((expr, rest)) = exprs.split_first() else {
-        return;
-    };
-    eval_ref(expr, row, into);
-    append_values(rest, row, into);
-}
-
-/// The row that a map makes, in place of what the buffer held.
-pub(crate) fn put_values(exprs: &[Expr], row: &RowRef<'_>, into: &mut RowBuf)
-    requires { IsSoundOp (kinds_of (row_in_ref row.now)) (map_op (exprs_in exprs.now)) }
-    ensures row { into.new ≡ values_of (exprs_in exprs.now) (row_in_ref row.now) }
-    ensures kinds { kinds_of into.new ≡ op_kinds (kinds_of (row_in_ref row.now)) (map_op (exprs_in exprs.now)) }
-    ensures some { 0 < length into.new }
-{
-    into.clear();
-    append_values(exprs, row, into);
-}
 
 #[inline]
 fn push_field(field: Field<'_>, into: &mut RowBuf)

@@ -50,7 +50,7 @@ pub fn copy_ops(alloc: Global, ops: &[ScriptOp]) -> Result<Vec<ScriptOp>, NoMemo
 }
 
 impl ScriptOp {
-    ghost use Rattle.lop_chain.specs.Ops.{op_in, makes_rows};
+    ghost use Rattle.lop_chain.specs.Ops.{op_in};
 
     /// The same line.
     pub fn copy(&self, alloc: Global) -> Result<ScriptOp, NoMemory>
@@ -65,12 +65,5 @@ impl ScriptOp {
                 count: *count,
             }),
         }
-    }
-
-    /// Whether it makes rows of its own. A filter passes on the row that it was given.
-    pub(crate) fn makes_rows(&self) -> bool
-        ensures { result ≡ makes_rows self.now }
-    {
-        !matches!(self, ScriptOp::Filter(_))
     }
 }

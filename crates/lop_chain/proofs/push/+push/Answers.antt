@@ -4,7 +4,8 @@ use Rattle.row_defs.specs.Rows.{Row, kinds_of, text}
 use Rattle.row_defs.specs.Texts.{words_in_text}
 use Rattle.row_defs.specs.LocalOps.{raised, with_word}
 use Rattle.dia_item.specs.Lent.{row_in_ref}
-use Rattle.lop_chain.specs.Ops.{ops_in, rows_from}
+use Rattle.lop_chain.specs.Ops.{rows_from}
+use Rattle.lop_chain.specs.Steps.{steps_in}
 use Rattle.lop_chain.specs.OpLemmas.{kinds_of_set}
 use Rattle.lop_chain.proofs.RowLemmas.{through_none, next_word, next_number, all_numbers, raised_by}
 use Rattle.lop_chain.proofs.SetLemmas.{has_column}
@@ -13,7 +14,7 @@ use Rattle.lop_chain.proofs.push.+push.Goals as goal
 
 pub push_through-returns-in-None-clause-err : goal.push_through-returns-in-None-clause-err
 push_through-returns-in-None-clause-err g t c =
-    rw (through_none c.args.ops.now (row_in_ref c.args.row.now) c.in-None.ensures.cases)
+    rw (through_none c.args.steps.now (row_in_ref c.args.row.now) c.in-None.ensures.cases)
     (refused_one g.S.RowSink _ _ _ _ _ _ (g.met.S.RowSink.took_none _) c.take.ensures.refused c.take.ensures.shut)
 
 pub push_words-put_with-made-requires-clause-column : goal.push_words-put_with-made-requires-clause-column
@@ -23,7 +24,7 @@ pub push_words-loop-word-init : goal.push_words-loop-word-init
 push_words-loop-word-init g t c = record {
   but = record {
     done = [];
-    parts = ap (λ (bytes : List ℕ). rows_from (ops_in c.args.ops.now) (map (with_word (row_in_ref c.args.row.now) c.args.column) (words_in_text bytes))) (sym c.text_at-rest.ensures.bytes);
+    parts = ap (λ (bytes : List ℕ). rows_from (steps_in c.args.steps.now) (map (with_word (row_in_ref c.args.row.now) c.args.column) (words_in_text bytes))) (sym c.text_at-rest.ensures.bytes);
     all = took_nothing g.S.RowSink _ _ (g.met.S.RowSink.took_none _) c.requires.serves c.requires.is_open;
   };
   follows = g.met.S.RowSink.follows_refl _;
@@ -43,7 +44,7 @@ push_words-returns-in-Err-clause-err g t c =
     let i = c.loop-word.invariant in
     let row : row_in_ref c.put_with-made.result ≡ with_word (row_in_ref c.args.row.now) c.args.column c.in-Some.word.now = c.put_with-made.ensures in
     took_but_some g.S.RowSink g.met.S.RowSink.took_more g.met.S.RowSink.refused_from _ _ _ _ _ _ _ _ _ _ i.follows
-    (rw (next_word (ops_in c.args.ops.now) (row_in_ref c.args.row.now) c.args.column c.loop-word.rest.now c.in-Some.word.now c.in-Some.after.now c.in-Some.ensures.word) at i.but)
+    (rw (next_word (steps_in c.args.steps.now) (row_in_ref c.args.row.now) c.args.column c.loop-word.rest.now c.in-Some.word.now c.in-Some.after.now c.in-Some.ensures.word) at i.but)
     (rw row at c.in-Err.ensures.err)
 
 pub push_words-loop-word-preserved : goal.push_words-loop-word-preserved
@@ -52,7 +53,7 @@ push_words-loop-word-preserved g t c =
     let row : row_in_ref c.put_with-made.result ≡ with_word (row_in_ref c.args.row.now) c.args.column c.in-Some.word.now = c.put_with-made.ensures in
     record {
       but = took_but g.S.RowSink g.met.S.RowSink.took_more _ _ _ _ _ _ _ _ _
-          (rw (next_word (ops_in c.args.ops.now) (row_in_ref c.args.row.now) c.args.column c.loop-word.rest.now c.in-Some.word.now c.in-Some.after.now c.in-Some.ensures.word) at i.but)
+          (rw (next_word (steps_in c.args.steps.now) (row_in_ref c.args.row.now) c.args.column c.loop-word.rest.now c.in-Some.word.now c.in-Some.after.now c.in-Some.ensures.word) at i.but)
           (rw row at c.in-Ok.ensures.ok);
       follows = g.met.S.RowSink.follows_trans _ _ _ i.follows c.push_through.ensures.follows;
       stays = g.met.S.RowSink.stays_trans _ _ _ i.stays c.push_through.ensures.stays;
@@ -63,7 +64,7 @@ pub push_spread-loop-i-init : goal.push_spread-loop-i-init
 push_spread-loop-i-init g t c = record {
   but = record {
     done = [];
-    parts = all_numbers (ops_in c.args.ops.now) (row_in_ref c.args.row.now) c.args.column c.args.count;
+    parts = all_numbers (steps_in c.args.steps.now) (row_in_ref c.args.row.now) c.args.column c.args.count;
     all = took_nothing g.S.RowSink _ _ (g.met.S.RowSink.took_none _) c.requires.serves c.requires.is_open;
   };
   follows = g.met.S.RowSink.follows_refl _;
@@ -86,7 +87,7 @@ push_spread-loop-i-preserved g t c =
     let row : row_in_ref c.put_with-made.result ≡ raised (row_in_ref c.args.row.now) c.args.column c.loop-i.i = c.put_with-made.ensures ∙ raised_by (row_in_ref c.args.row.now) c.args.column c.number_at-first.result c.from.result c.loop-i.i c.number_at-first.ensures c.from.ensures in
     record {
       but = took_but g.S.RowSink g.met.S.RowSink.took_more _ _ _ _ _ _ _ _ _
-          (rw (next_number (ops_in c.args.ops.now) (row_in_ref c.args.row.now) c.args.column c.loop-i.i c.args.count c.loop-i-test.true) at i.but)
+          (rw (next_number (steps_in c.args.steps.now) (row_in_ref c.args.row.now) c.args.column c.loop-i.i c.args.count c.loop-i-test.true) at i.but)
           (rw row at c.in-Ok.ensures.ok);
       follows = g.met.S.RowSink.follows_trans _ _ _ i.follows c.push_through.ensures.follows;
       stays = g.met.S.RowSink.stays_trans _ _ _ i.stays c.push_through.ensures.stays;
@@ -97,5 +98,5 @@ push_spread-returns-in-Err-clause-err g t c =
     let i = c.loop-i.invariant in
     let row : row_in_ref c.put_with-made.result ≡ raised (row_in_ref c.args.row.now) c.args.column c.loop-i.i = c.put_with-made.ensures ∙ raised_by (row_in_ref c.args.row.now) c.args.column c.number_at-first.result c.from.result c.loop-i.i c.number_at-first.ensures c.from.ensures in
     took_but_some g.S.RowSink g.met.S.RowSink.took_more g.met.S.RowSink.refused_from _ _ _ _ _ _ _ _ _ _ i.follows
-    (rw (next_number (ops_in c.args.ops.now) (row_in_ref c.args.row.now) c.args.column c.loop-i.i c.args.count c.loop-i-test.true) at i.but)
+    (rw (next_number (steps_in c.args.steps.now) (row_in_ref c.args.row.now) c.args.column c.loop-i.i c.args.count c.loop-i-test.true) at i.but)
     (rw row at c.in-Err.ensures.err)

@@ -1,0 +1,138 @@
+//! What is computed of an expression of kind Int: what is constant is a number, an operand that is a column or a number
+//! needs no step of its own, and a division by a number is a product.
+ghost use Rattle.std.specs.Prelude.{◌≡◌, IfOk};
+ghost use Rattle.row_defs.specs.Rows.{int, kinds_of};
+ghost use Rattle.row_defs.specs.Values.{number, math as math_of, value_of};
+ghost use Rattle.row_defs.specs.declared.kind.Kind.TheVariants.{Int};
+ghost use Rattle.dia_item.specs.Lent.{row_in_ref};
+ghost use Rattle.dia_expr.specs.Exprs.{expr_in, math_in};
+ghost use Rattle.dia_expr.specs.Typing.{HasKind};
+ghost use Rattle.dia_expr.specs.Nodes.{node_in, Computes};
+
+use crate::divisor::Divisor;
+use crate::evaluate::{int_column, int_made};
+use crate::expr::{Expr, Math};
+use crate::math::math;
+use dia_edge::NoMemory;
+use dia_item::RowRef;
+use std::alloc::Global;
+
+/// What is computed, step by step.
+#[derive(Debug, Drop)]
+pub(crate) enum Node {
+    /// The column with this number.
+    Column(u32),
+    /// A number.
+    Number(u64),
+    /// A number made of a column and a number.
+    OfColumn(Math, u32, u64),
+    /// A number made of another and a number that stands there.
+    WithNumber(Math, Box<Node>, u64),
+    /// The quotient.
+    Quotient(Box<Node>, Divisor),
+    /// The remainder.
+    Remainder(Box<Node>, Divisor),
+    /// A number made of two.
+    OfTwo(Math, Box<Node>, Box<Node>),
+    /// An expression that isn't made ready.
+    Other(Expr),
+}
+
+/// A node on the heap.
+fn boxed(alloc: Global, node: Node) -> Result<Box<Node>, NoMemory>
+    ensures { IfOk result (λ b. b.value ≡ node) }
+{
+    Ok(Box::new(alloc, node)?)
+}
+
+/// What makes a number of another and this one.
+fn with_number(alloc: Global, op: Math, a: Node, n: u64) -> Result<Node, NoMemory>
+    ensures { IfOk result (λ node. Computes (node_in node) (math_of (math_in op) (node_in a) (number n))) }
+{
+    match a {
+        Node::Number(a) => Ok(Node::Number(math(op, a, n))),
+        Node::Column(i) if op != Math::Div && op != Math::Mod => Ok(Node::OfColumn(op, i, n)),
+        a => {
+            let a = boxed(alloc, a)?;
+            match op {
+                Math::Div if n > 0 => Ok(Node::Quotient(a, Divisor::new(n))),
+                Math::Mod if n > 0 => Ok(Node::Remainder(a, Divisor::new(n))),
+                _ => Ok(Node::WithNumber(op, a, n)),
+            }
+        }
+    }
+}
+
+/// What makes a number of two.
+fn of_two(alloc: Global, op: Math, a: Node, b: Node) -> Result<Node, NoMemory>
+    ensures { IfOk result (λ node. Computes (node_in node) (math_of (math_in op) (node_in a) (node_in b))) }
+{
+    match b {
+        Node::Number(n) => with_number(alloc, op, a, n),
+        b => Ok(Node::OfTwo(op, boxed(alloc, a)?, boxed(alloc, b)?)),
+    }
+}
+
+/// What computes an expression.
+pub(crate) fn node_of(alloc: Global, expr: &Expr) -> Result<Node, NoMemory>
+    ensures { IfOk result (λ node. Computes (node_in node) (expr_in expr.now)) }
+{
+    match expr {
+        Expr::Column(i) => Ok(Node::Column(*i)),
+        Expr::Number(n) => Ok(Node::Number(*n)),
+        Expr::Math(op, a, b) => {
+            let a = node_of(alloc, a)?;
+            let b = node_of(alloc, b)?;
+            of_two(alloc, *op, a, b)
+        }
+        _ => Ok(Node::Other(expr.copy(alloc)?)),
+    }
+}
+
+/// The value of a node.
+#[inline(always)]
+#[cycle(nodes)]
+pub(crate) fn node_value<'a>(node: &'a Node, row: &RowRef<'a>) -> u64
+    requires { HasKind (kinds_of (row_in_ref row.now)) (node_in node.now) Int }
+    ensures { value_of (node_in node.now) (row_in_ref row.now) ≡ int result }
+{
+    match node {
+        Node::Column(i) => int_column(row, *i),
+        Node::Number(n) => *n,
+        Node::OfColumn(op, i, n) => math(*op, int_column(row, *i), *n),
+        Node::WithNumber(op, a, n) => math(*op, operand(a, row), *n),
+        Node::Quotient(a, divisor) => divisor.quotient(operand(a, row)),
+        Node::Remainder(a, divisor) => divisor.remainder(operand(a, row)),
+        Node::OfTwo(op, a, b) => {
+            let a = operand(a, row);
+            let b = operand(b, row);
+            math(*op, a, b)
+        }
+        Node::Other(expr) => int_made(expr, row),
+    }
+}
+
+/// The value of a node within another: where it is made of columns and numbers alone it takes no call.
+#[inline(always)]
+#[cycle(nodes)]
+fn operand<'a>(node: &'a Node, row: &RowRef<'a>) -> u64
+    requires { HasKind (kinds_of (row_in_ref row.now)) (node_in node.now) Int }
+    ensures { value_of (node_in node.now) (row_in_ref row.now) ≡ int result }
+{
+    match node {
+        Node::Column(i) => int_column(row, *i),
+        Node::Number(n) => *n,
+        Node::OfColumn(op, i, n) => math(*op, int_column(row, *i), *n),
+        _ => operand_made(node, row),
+    }
+}
+
+/// The same where it may take more.
+#[inline(never)]
+#[cycle(nodes)]
+fn operand_made<'a>(node: &'a Node, row: &RowRef<'a>) -> u64
+    requires { HasKind (kinds_of (row_in_ref row.now)) (node_in node.now) Int }
+    ensures { value_of (node_in node.now) (row_in_ref row.now) ≡ int result }
+{
+    node_value(node, row)
+}
