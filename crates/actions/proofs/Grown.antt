@@ -17,7 +17,8 @@ use Rattle.scatter.specs.Sends.{GivesRows}
 use Rattle.feed_print.specs.Printing.{printed, refused, prints_none, prints_more, PrintedSome}
 use Rattle.scatter.specs.Told.{Tells, SomeHit}
 use Rattle.actions.specs.Printing.{rows_of_feeds, AreToldFeeds, PrintedOne, PrintedAll, PrintedFirst, NotAllPrinted, HasPrinted}
-use Rattle.actions.proofs.Snoc.{zip_more, zip_less, all_less, get_more, get_end}
+use Rattle.lent_step.proofs.Lists.{zip_more}
+use Rattle.actions.proofs.Snoc.{zip_less, all_less, get_more, get_end}
 
 abbrev rows_of : FeedValue → List Row
 rows_of f = rows_from f.ops f.left

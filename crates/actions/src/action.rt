@@ -46,7 +46,6 @@ pub fn act<'p, R: Threads + Wait + Sync, G: Gate + Sync, D: Disk + Send + Sync, 
     stock: &mut Stock<X>,
     action: &Action,
     operand: &Operand,
-    last: bool,
     hands: &mut Vec<Hand<'p, D>>,
     buffer: &mut OutBuffer,
     out: &mut S,
@@ -68,8 +67,8 @@ pub fn act<'p, R: Threads + Wait + Sync, G: Gate + Sync, D: Disk + Send + Sync, 
     ensures empty { OnOk result (buffer.new ≡ []) }
     ensures refused { IfErr result (ActStopped S.Sink (lines_of stock.old) (root_in operand.now.root) (ops_in operand.now.chain.items)
         (text_of_rows (action_in action.now)) hands.old.items hands.new.items out.old out.new) }
-    ensures lines { OnOk result (IsUsed (lines_of stock.old) (root_in operand.now.root) last (lines_of stock.new)) }
-    ensures left { OnErr result (IsUsed (lines_of stock.old) (root_in operand.now.root) last (lines_of stock.new)
+    ensures lines { OnOk result (IsUsed (lines_of stock.old) (root_in operand.now.root) operand.now.last (lines_of stock.new)) }
+    ensures left { OnErr result (IsUsed (lines_of stock.old) (root_in operand.now.root) operand.now.last (lines_of stock.new)
         ⊎ IsUsed (lines_of stock.old) (root_in operand.now.root) false (lines_of stock.new)) }
 
     // On every answer.
@@ -79,10 +78,8 @@ pub fn act<'p, R: Threads + Wait + Sync, G: Gate + Sync, D: Disk + Send + Sync, 
     ensures workers { stock.new.workers ≡ stock.old.workers }
 {
     match action {
-        Action::Print { .. } => print(rt, alloc, way, stock, operand, last, hands, buffer, out),
-        Action::Size { .. } => size(rt, alloc, way, stock, operand, last, hands, out),
-        Action::Sum { column, .. } => {
-            sum(rt, alloc, way, stock, operand, last, *column, hands, out)
-        }
+        Action::Print { .. } => print(rt, alloc, way, stock, operand, hands, buffer, out),
+        Action::Size { .. } => size(rt, alloc, way, stock, operand, hands, out),
+        Action::Sum { column, .. } => { sum(rt, alloc, way, stock, operand, *column, hands, out) }
     }
 }

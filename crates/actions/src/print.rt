@@ -37,7 +37,6 @@ fn print_root<'p, R: Wait, D: Disk, X: Net, S: Sink>(
     alloc: Global,
     stock: &mut Stock<X>,
     operand: &Operand,
-    last: bool,
     hands: &mut Vec<Hand<'p, D>>,
     buffer: &mut OutBuffer,
     out: &mut S,
@@ -52,8 +51,8 @@ fn print_root<'p, R: Wait, D: Disk, X: Net, S: Sink>(
         (arriving (lines_of stock.old) (root_in operand.now.root) (ops_in operand.now.chain.items))
         hands.old.items out.old buffer.old result hands.new.items out.new buffer.new }
     ensures permits { OnOk result (AllZip (λ (a b : HandValue). b.permits ≡ a.permits) hands.old.items hands.new.items) }
-    ensures lines { OnOk result (IsUsed (lines_of stock.old) (root_in operand.now.root) last (lines_of stock.new)) }
-    ensures left { OnErr result (IsUsed (lines_of stock.old) (root_in operand.now.root) last (lines_of stock.new) ⊎ (stock.new ≡ stock.old)) }
+    ensures lines { OnOk result (IsUsed (lines_of stock.old) (root_in operand.now.root) operand.now.last (lines_of stock.new)) }
+    ensures left { OnErr result (IsUsed (lines_of stock.old) (root_in operand.now.root) operand.now.last (lines_of stock.new) ⊎ (stock.new ≡ stock.old)) }
 
     // On every answer.
     ensures follows { AllZip Follows hands.old.items hands.new.items }
@@ -63,7 +62,7 @@ fn print_root<'p, R: Wait, D: Disk, X: Net, S: Sink>(
     let Ok(room) = Printed::new(alloc, hands.len()) else {
         return Err(FeedErr::NoMemory);
     };
-    let Ok(feeds) = stock.feeds(alloc, operand, last) else {
+    let Ok(feeds) = stock.feeds(alloc, operand, operand.last) else {
         return Err(FeedErr::NoMemory);
     };
     let moved = mem::replace(hands, Vec::new(alloc));
@@ -73,7 +72,7 @@ fn print_root<'p, R: Wait, D: Disk, X: Net, S: Sink>(
         answer,
     } = print_feeds(rt, feeds, moved, room, buffer, out);
     *hands = ended;
-    give_back(stock, operand.root, last, parts);
+    give_back(stock, operand.root, operand.last, parts);
     answer
 }
 
@@ -111,7 +110,6 @@ fn print_all<'p, R: Wait, D: Disk, X: Net, S: Sink>(
     alloc: Global,
     stock: &mut Stock<X>,
     operand: &Operand,
-    last: bool,
     hands: &mut Vec<Hand<'p, D>>,
     buffer: &mut OutBuffer,
     out: &mut S,
@@ -131,8 +129,8 @@ fn print_all<'p, R: Wait, D: Disk, X: Net, S: Sink>(
     ensures empty { OnOk result (buffer.new ≡ []) }
     ensures refused { IfErr result (ActStopped S.Sink (lines_of stock.old) (root_in operand.now.root) (ops_in operand.now.chain.items) texts_of_rows
         hands.old.items hands.new.items out.old out.new) }
-    ensures lines { OnOk result (IsUsed (lines_of stock.old) (root_in operand.now.root) last (lines_of stock.new)) }
-    ensures left { OnErr result (IsUsed (lines_of stock.old) (root_in operand.now.root) last (lines_of stock.new) ⊎ (stock.new ≡ stock.old)) }
+    ensures lines { OnOk result (IsUsed (lines_of stock.old) (root_in operand.now.root) operand.now.last (lines_of stock.new)) }
+    ensures left { OnErr result (IsUsed (lines_of stock.old) (root_in operand.now.root) operand.now.last (lines_of stock.new) ⊎ (stock.new ≡ stock.old)) }
 
     // On every answer.
     ensures counts { S.faults out.old ≤ S.faults out.new }
@@ -140,7 +138,7 @@ fn print_all<'p, R: Wait, D: Disk, X: Net, S: Sink>(
     ensures net { stock.new.net ≡ stock.old.net }
     ensures workers { stock.new.workers ≡ stock.old.workers }
 {
-    match print_root(rt, alloc, stock, operand, last, hands, buffer, out) {
+    match print_root(rt, alloc, stock, operand, hands, buffer, out) {
         Ok(()) => flush(buffer, out),
         Err(refusal) => Err(refusal_to_print(refusal, out)),
     }
@@ -160,7 +158,6 @@ pub(crate) fn print<
     way: &mut Way<'_, G>,
     stock: &mut Stock<X>,
     operand: &Operand,
-    last: bool,
     hands: &mut Vec<Hand<'p, D>>,
     buffer: &mut OutBuffer,
     out: &mut S,
@@ -181,8 +178,8 @@ pub(crate) fn print<
     ensures empty { OnOk result (buffer.new ≡ []) }
     ensures refused { IfErr result (ActStopped S.Sink (lines_of stock.old) (root_in operand.now.root) (ops_in operand.now.chain.items) texts_of_rows
         hands.old.items hands.new.items out.old out.new) }
-    ensures lines { OnOk result (IsUsed (lines_of stock.old) (root_in operand.now.root) last (lines_of stock.new)) }
-    ensures left { OnErr result (IsUsed (lines_of stock.old) (root_in operand.now.root) last (lines_of stock.new)
+    ensures lines { OnOk result (IsUsed (lines_of stock.old) (root_in operand.now.root) operand.now.last (lines_of stock.new)) }
+    ensures left { OnErr result (IsUsed (lines_of stock.old) (root_in operand.now.root) operand.now.last (lines_of stock.new)
         ⊎ IsUsed (lines_of stock.old) (root_in operand.now.root) false (lines_of stock.new)) }
 
     // On every answer.
@@ -192,7 +189,7 @@ pub(crate) fn print<
     ensures workers { stock.new.workers ≡ stock.old.workers }
 {
     match check_few(rt, alloc, way, stock, operand, hands) {
-        Ok(()) => print_all(rt, alloc, stock, operand, last, hands, buffer, out),
+        Ok(()) => print_all(rt, alloc, stock, operand, hands, buffer, out),
         Err(fault) => Err(refusal_of(fault)),
     }
 }

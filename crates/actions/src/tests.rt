@@ -113,7 +113,6 @@ fn act_with<'p, R: Threads + Wait + Sync>(
         &mut stock,
         action,
         &operand,
-        false,
         hands,
         &mut buffer,
         out,

@@ -22,14 +22,6 @@ use Rattle.scatter.proofs.Arriving.{hand_in, sink_before, IsToldTurn, all_back, 
 use Rattle.feed_actions.specs.Counting.{CountRefused}
 use Rattle.feed_actions.proofs.TurnCounts.{count_all, too_many}
 
-pub follow_refl : (hands : List HandValue) → AllZip Follows hands hands
-follow_refl [] = tt
-follow_refl (a ∷ hands) = (follows_refl a, follow_refl hands)
-
-pub permits_refl : (hands : List HandValue) → AllZip (λ (a b : HandValue). b.permits ≡ a.permits) hands hands
-permits_refl [] = tt
-permits_refl (a ∷ hands) = (refl, permits_refl hands)
-
 -- sinks that each hand with a permit serves
 module _ {S R : Type 0} (g : Ghosts S HandValue R) (Is : S → Type 0) (to : Kinds) (accepts : (s : S) → Is s → g.accepts s to) (is_open : (s : S) → Is s → g.is_shut s ≡ false) (serves : (s : S) (a : HandValue) → g.serves s a) where
   pub can_take : (sinks : List S) (hands : List HandValue) → length sinks ≡ length hands → All Is sinks → All HasPermit hands → AllZip (CanTake g to) sinks hands

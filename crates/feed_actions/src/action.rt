@@ -13,6 +13,7 @@ ghost use Rattle.lop_chain.specs.Operands.{root_in};
 ghost use Rattle.scatter.specs.Lines.{HasRoot, root_kinds};
 ghost use Rattle.scatter.specs.Stocks.{lines_of, AreInPools};
 ghost use Rattle.scatter.specs.Phases.{pools_of, IsUsed};
+ghost use Rattle.scatter.specs.Clearing.{IsUnread};
 ghost use Rattle.scatter.specs.Told.{AreTold, HasPermit, arriving};
 ghost use Rattle.feed_actions.specs.Counting.{known_extent, IsTooLong};
 ghost use Rattle.feed_actions.specs.Acting.{act_refusal, size_text, sum_text, Writes, ActRefused};
@@ -79,7 +80,8 @@ fn put_number<S: Sink>(n: u64, out: &mut S) -> Result<(), ActErr>
 }
 
 /// Writes how many rows arrive. They are counted by all workers in one phase, but no block is read where the chain makes as many
-/// rows of each and the root is used again, nor where more rows are known to arrive than may.
+/// rows of each: then only memory may be wanting, and only to free the root's blocks at its last use. Nor is one read where more
+/// rows are known to arrive than may.
 ///
 /// After a refusal nothing was written, but that after `Write` some prefix of the text was. On every answer each hand is there,
 /// and the lines are in stock as before with no part lent, but that where this is the last use the root's line is gone.
@@ -89,7 +91,6 @@ pub fn size<'p, R: Threads + Wait + Sync, G: Gate + Sync, D: Disk + Send + Sync,
     way: &mut Way<'_, G>,
     stock: &mut Stock<X>,
     operand: &Operand,
-    last: bool,
     hands: &mut Vec<Hand<'p, D>>,
     out: &mut S,
 ) -> Result<(), ActErr>
@@ -107,11 +108,14 @@ pub fn size<'p, R: Threads + Wait + Sync, G: Gate + Sync, D: Disk + Send + Sync,
     ensures permits { OnOk result (AllZip (λ (a b : HandValue). b.permits ≡ a.permits) hands.old.items hands.new.items) }
     ensures refused { IfErr result (ActRefused S.Sink (lines_of stock.old) (root_in operand.now.root) (ops_in operand.now.chain.items) size_text
         hands.old.items hands.new.items out.old out.new) }
-    ensures lines { OnOk result (IsUsed (lines_of stock.old) (root_in operand.now.root) last (lines_of stock.new)) }
-    ensures left { OnErr result (IsUsed (lines_of stock.old) (root_in operand.now.root) last (lines_of stock.new) ⊎ (stock.new ≡ stock.old)) }
+    ensures lines { OnOk result (IsUsed (lines_of stock.old) (root_in operand.now.root) operand.now.last (lines_of stock.new)) }
+    ensures left { OnErr result (IsUsed (lines_of stock.old) (root_in operand.now.root) operand.now.last (lines_of stock.new) ⊎ (stock.new ≡ stock.old)) }
     ensures at_once { IsTooLong (lines_of stock.old) (root_in operand.now.root) (ops_in operand.now.chain.items)
         → (result ≡ Err ActErr.TooManyRows) × (hands.new ≡ hands.old) × (stock.new ≡ stock.old) }
-    ensures unread { (n : ℕ) → last ≡ false → known_extent (lines_of stock.old) (root_in operand.now.root) (ops_in operand.now.chain.items) ≡ Extent.Exactly n
+    ensures unread { (n : ℕ) → known_extent (lines_of stock.old) (root_in operand.now.root) (ops_in operand.now.chain.items) ≡ Extent.Exactly n → n ≤ most_rows
+        → (result ≡ Err ActErr.NoMemory) ⊎ (Writes S.Sink out.old out.new (number_line n) result
+        × IsUnread (lines_of stock.old) (root_in operand.now.root) operand.now.last hands.old.items hands.new.items) }
+    ensures kept { (n : ℕ) → operand.now.last ≡ false → known_extent (lines_of stock.old) (root_in operand.now.root) (ops_in operand.now.chain.items) ≡ Extent.Exactly n
         → (hands.new ≡ hands.old) × (stock.new ≡ stock.old) }
 
     // On every answer.
@@ -120,7 +124,7 @@ pub fn size<'p, R: Threads + Wait + Sync, G: Gate + Sync, D: Disk + Send + Sync,
     ensures net { stock.new.net ≡ stock.old.net }
     ensures workers { stock.new.workers ≡ stock.old.workers }
 {
-    match rows_arriving(rt, alloc, way, stock, operand, last, hands) {
+    match rows_arriving(rt, alloc, way, stock, operand, operand.last, hands) {
         Ok(rows) => put_number(rows, out),
         Err(fault) => Err(refusal_of(fault)),
     }
@@ -134,7 +138,6 @@ pub fn sum<'p, R: Threads + Wait + Sync, G: Gate + Sync, D: Disk + Send + Sync, 
     way: &mut Way<'_, G>,
     stock: &mut Stock<X>,
     operand: &Operand,
-    last: bool,
     column: u32,
     hands: &mut Vec<Hand<'p, D>>,
     out: &mut S,
@@ -153,8 +156,8 @@ pub fn sum<'p, R: Threads + Wait + Sync, G: Gate + Sync, D: Disk + Send + Sync, 
     ensures permits { OnOk result (AllZip (λ (a b : HandValue). b.permits ≡ a.permits) hands.old.items hands.new.items) }
     ensures refused { IfErr result (ActRefused S.Sink (lines_of stock.old) (root_in operand.now.root) (ops_in operand.now.chain.items) (sum_text column)
         hands.old.items hands.new.items out.old out.new) }
-    ensures lines { OnOk result (IsUsed (lines_of stock.old) (root_in operand.now.root) last (lines_of stock.new)) }
-    ensures left { OnErr result (IsUsed (lines_of stock.old) (root_in operand.now.root) last (lines_of stock.new) ⊎ (stock.new ≡ stock.old)) }
+    ensures lines { OnOk result (IsUsed (lines_of stock.old) (root_in operand.now.root) operand.now.last (lines_of stock.new)) }
+    ensures left { OnErr result (IsUsed (lines_of stock.old) (root_in operand.now.root) operand.now.last (lines_of stock.new) ⊎ (stock.new ≡ stock.old)) }
     ensures at_once { IsTooLong (lines_of stock.old) (root_in operand.now.root) (ops_in operand.now.chain.items)
         → (result ≡ Err ActErr.TooManyRows) × (hands.new ≡ hands.old) × (stock.new ≡ stock.old) }
 
@@ -164,7 +167,7 @@ pub fn sum<'p, R: Threads + Wait + Sync, G: Gate + Sync, D: Disk + Send + Sync, 
     ensures net { stock.new.net ≡ stock.old.net }
     ensures workers { stock.new.workers ≡ stock.old.workers }
 {
-    match sum_all(rt, alloc, way, stock, operand, last, column, hands) {
+    match sum_all(rt, alloc, way, stock, operand, column, hands) {
         Ok(sum) => put_number(sum, out),
         Err(fault) => Err(refusal_of(fault)),
     }

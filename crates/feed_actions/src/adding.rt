@@ -76,7 +76,6 @@ fn sum_phase<'p, R: Threads + Wait + Sync, G: Gate + Sync, D: Disk + Send + Sync
     way: &mut Way<'_, G>,
     stock: &mut Stock<X>,
     operand: &Operand,
-    last: bool,
     column: u32,
     hands: &mut Vec<Hand<'p, D>>,
     summers: &mut Vec<Summer<'p, D>>,
@@ -90,13 +89,13 @@ fn sum_phase<'p, R: Threads + Wait + Sync, G: Gate + Sync, D: Disk + Send + Sync
     requires fresh { All (IsFreshSummer column) summers.old.items }
 
     ensures sent { OnOk result (HasSent ⟦<Summer<'p, D> as RowSink>⟧
-        (root_feeds (lines_of stock.old) stock.old.workers (root_in operand.now.root) last (ops_in operand.now.chain.items))
+        (root_feeds (lines_of stock.old) stock.old.workers (root_in operand.now.root) operand.now.last (ops_in operand.now.chain.items))
         summers.old.items hands.old.items summers.new.items hands.new.items) }
     ensures stopped { IfErr result (λ e. (e ≡ FeedErr.NoMemory) ⊎ HasStopped ⟦<Summer<'p, D> as RowSink>⟧
-        (root_feeds (lines_of stock.old) stock.old.workers (root_in operand.now.root) last (ops_in operand.now.chain.items))
+        (root_feeds (lines_of stock.old) stock.old.workers (root_in operand.now.root) operand.now.last (ops_in operand.now.chain.items))
         summers.old.items hands.old.items summers.new.items hands.new.items e) }
-    ensures lines { OnOk result (IsUsed (lines_of stock.old) (root_in operand.now.root) last (lines_of stock.new)) }
-    ensures left { OnErr result (IsUsed (lines_of stock.old) (root_in operand.now.root) last (lines_of stock.new) ⊎ (stock.new ≡ stock.old)) }
+    ensures lines { OnOk result (IsUsed (lines_of stock.old) (root_in operand.now.root) operand.now.last (lines_of stock.new)) }
+    ensures left { OnErr result (IsUsed (lines_of stock.old) (root_in operand.now.root) operand.now.last (lines_of stock.new) ⊎ (stock.new ≡ stock.old)) }
 
     // On every answer.
     ensures follows { AllZip Follows hands.old.items hands.new.items }
@@ -104,7 +103,12 @@ fn sum_phase<'p, R: Threads + Wait + Sync, G: Gate + Sync, D: Disk + Send + Sync
     ensures workers { stock.new.workers ≡ stock.old.workers }
 {
     let mut phase: Phase<'p, D, X, Summer<'p, D>> = match Phase::begin(
-        alloc, stock, operand, last, hands, summers,
+        alloc,
+        stock,
+        operand,
+        operand.last,
+        hands,
+        summers,
     ) {
         Ok(phase) => phase,
         Err(NoMemory) => return Err(FeedErr::NoMemory),
@@ -121,7 +125,6 @@ pub(crate) fn sum_all<'p, R: Threads + Wait + Sync, G: Gate + Sync, D: Disk + Se
     way: &mut Way<'_, G>,
     stock: &mut Stock<X>,
     operand: &Operand,
-    last: bool,
     column: u32,
     hands: &mut Vec<Hand<'p, D>>,
 ) -> Result<u64, FeedErr<TooManyRows>>
@@ -138,8 +141,8 @@ pub(crate) fn sum_all<'p, R: Threads + Wait + Sync, G: Gate + Sync, D: Disk + Se
         → length (arriving (lines_of stock.old) (root_in operand.now.root) (ops_in operand.now.chain.items)) ≤ most_rows) }
     ensures permits { OnOk result (AllZip (λ (a b : HandValue). b.permits ≡ a.permits) hands.old.items hands.new.items) }
     ensures refused { IfErr result (λ e. CountRefused (lines_of stock.old) (root_in operand.now.root) (ops_in operand.now.chain.items) hands.old.items hands.new.items e) }
-    ensures lines { OnOk result (IsUsed (lines_of stock.old) (root_in operand.now.root) last (lines_of stock.new)) }
-    ensures left { OnErr result (IsUsed (lines_of stock.old) (root_in operand.now.root) last (lines_of stock.new) ⊎ (stock.new ≡ stock.old)) }
+    ensures lines { OnOk result (IsUsed (lines_of stock.old) (root_in operand.now.root) operand.now.last (lines_of stock.new)) }
+    ensures left { OnErr result (IsUsed (lines_of stock.old) (root_in operand.now.root) operand.now.last (lines_of stock.new) ⊎ (stock.new ≡ stock.old)) }
     ensures at_once { IsTooLong (lines_of stock.old) (root_in operand.now.root) (ops_in operand.now.chain.items)
         → (e : TooManyRows) × (result ≡ Err (FeedErr.Sink e)) × (hands.new ≡ hands.old) × (stock.new ≡ stock.old) }
 
@@ -151,22 +154,12 @@ pub(crate) fn sum_all<'p, R: Threads + Wait + Sync, G: Gate + Sync, D: Disk + Se
     if let Err(refusal) = check_known(stock, operand) {
         return Err(FeedErr::Sink(refusal));
     }
-    stock.joined(operand, last);
+    stock.joined(operand, operand.last);
     let mut summers = match summers_for(alloc, hands.len(), column as usize) {
         Ok(summers) => summers,
         Err(NoMemory) => return Err(FeedErr::NoMemory),
     };
-    sum_phase(
-        rt,
-        alloc,
-        way,
-        stock,
-        operand,
-        last,
-        column,
-        hands,
-        &mut summers,
-    )?;
+    sum_phase(rt, alloc, way, stock, operand, column, hands, &mut summers)?;
     match few(total(summers.as_slice())) {
         Ok(_) => Ok(sum(summers.as_slice())),
         Err(refusal) => Err(FeedErr::Sink(refusal)),

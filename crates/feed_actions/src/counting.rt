@@ -1,5 +1,5 @@
 //! The rows that arrive, counted by all workers.
-ghost use Rattle.std.specs.Prelude.{◌≡◌, ℕ, false, Err, ◌<◌, ◌≤◌, ◌⊎◌, IfOk, OnOk, IfErr, OnErr, All, length, vec_len};
+ghost use Rattle.std.specs.Prelude.{◌≡◌, ℕ, false, Ok, Err, ◌<◌, ◌≤◌, ◌⊎◌, IfOk, OnOk, IfErr, OnErr, All, length, vec_len};
 ghost use Rattle.std.specs.List.{AllZip, sum_by};
 ghost use Rattle.row_defs.specs.Limits.{most_rows};
 ghost use Rattle.row_defs.specs.LocalOps.{AreSoundOps};
@@ -10,6 +10,7 @@ ghost use Rattle.lop_chain.specs.Operands.{root_in};
 ghost use Rattle.scatter.specs.Lines.{HasRoot, root_kinds, root_feeds};
 ghost use Rattle.scatter.specs.Stocks.{lines_of, AreInPools};
 ghost use Rattle.scatter.specs.Phases.{pools_of, IsUsed, HasSent, HasStopped};
+ghost use Rattle.scatter.specs.Clearing.{IsUnread};
 ghost use Rattle.scatter.specs.Told.{AreTold, HasPermit, arriving};
 ghost use Rattle.feed_actions.specs.Counting.{known_extent, IsTooLong, CountRefused, IsFreshCounter, rows_counted};
 
@@ -21,7 +22,7 @@ use hand_phase::run_hands;
 use lop_chain::{Operand, RowSink};
 use row_defs::limits::MOST_ROWS;
 use row_growth::Extent;
-use scatter::{FeedErr, Net, Phase, Stock};
+use scatter::{FeedErr, Net, Phase, Stock, leave_unread};
 use std::alloc::Global;
 use std::sync::Wait;
 use std::thread::Threads;
@@ -137,6 +138,7 @@ fn count_all<'p, R: Threads + Wait + Sync, G: Gate + Sync, D: Disk + Send + Sync
 }
 
 /// How many rows arrive: no more than may. They are counted only where that isn't known at once: by all workers in one phase.
+/// Where it is known no block is read, and where this is the last use the root's blocks are freed.
 ///
 /// `Sink` says that more rows arrive than may, `Disk` comes only where the disk failed in this call, `Damaged` never where it
 /// tells, and `NoMemory` where there was none. On every answer each hand is there, and the lines are in stock as before with no
@@ -166,7 +168,9 @@ pub fn rows_arriving<'p, R: Threads + Wait + Sync, G: Gate + Sync, D: Disk + Sen
     ensures left { OnErr result (IsUsed (lines_of stock.old) (root_in operand.now.root) last (lines_of stock.new) ⊎ (stock.new ≡ stock.old)) }
     ensures at_once { IsTooLong (lines_of stock.old) (root_in operand.now.root) (ops_in operand.now.chain.items)
         → (e : TooManyRows) × (result ≡ Err (FeedErr.Sink e)) × (hands.new ≡ hands.old) × (stock.new ≡ stock.old) }
-    ensures unread { (n : ℕ) → last ≡ false → known_extent (lines_of stock.old) (root_in operand.now.root) (ops_in operand.now.chain.items) ≡ Extent.Exactly n
+    ensures unread { (n : ℕ) → known_extent (lines_of stock.old) (root_in operand.now.root) (ops_in operand.now.chain.items) ≡ Extent.Exactly n → n ≤ most_rows
+        → (result ≡ Err FeedErr.NoMemory) ⊎ ((result ≡ Ok n) × IsUnread (lines_of stock.old) (root_in operand.now.root) last hands.old.items hands.new.items) }
+    ensures kept { (n : ℕ) → last ≡ false → known_extent (lines_of stock.old) (root_in operand.now.root) (ops_in operand.now.chain.items) ≡ Extent.Exactly n
         → (hands.new ≡ hands.old) × (stock.new ≡ stock.old) }
 
     // On every answer.
@@ -177,8 +181,11 @@ pub fn rows_arriving<'p, R: Threads + Wait + Sync, G: Gate + Sync, D: Disk + Sen
     if let Err(refusal) = check_known(stock, operand) {
         return Err(FeedErr::Sink(refusal));
     }
-    match known_count(stock, operand, last) {
-        Some(rows) => Ok(rows),
+    match known_count(stock, operand) {
+        Some(rows) => match leave_unread(rt, alloc, stock, operand.root, last, hands) {
+            Ok(()) => Ok(rows),
+            Err(NoMemory) => Err(FeedErr::NoMemory),
+        },
         None => count_all(rt, alloc, way, stock, operand, last, hands),
     }
 }

@@ -1,5 +1,5 @@
 //! How many rows arrive, as far as that is known without reading one.
-ghost use Rattle.std.specs.Prelude.{◌≡◌, ◌<◌, ◌≤◌, ◌-◌, ◌^◌, ℕ, false, min, length, Some, IfSome, OnOk, OnErr};
+ghost use Rattle.std.specs.Prelude.{◌≡◌, ◌<◌, ◌≤◌, ◌-◌, ◌^◌, ℕ, min, length, Some, IfSome, OnOk, OnErr};
 ghost use Rattle.row_defs.specs.Limits.{most_rows};
 ghost use Rattle.lop_chain.specs.Ops.{ops_in};
 ghost use Rattle.lop_chain.specs.Operands.{root_in};
@@ -26,20 +26,18 @@ pub fn known_extent<X: Net>(stock: &Stock<X>, operand: &Operand) -> Extent
     extent_of(rows, LONGEST_TEXT, operand.chain.as_slice())
 }
 
-/// How many rows arrive, or `u64::MAX` where they are more, where the chain makes as many rows of each and this isn't the last
-/// use, at which a line's blocks are to be freed.
-pub(crate) fn known_count<X: Net>(stock: &Stock<X>, operand: &Operand, last: bool) -> Option<u64>
+/// How many rows arrive, or `u64::MAX` where they are more, where the chain makes as many rows of each.
+pub(crate) fn known_count<X: Net>(stock: &Stock<X>, operand: &Operand) -> Option<u64>
     requires { HasRoot (lines_of stock.now) (root_in operand.now.root) }
     ensures count { IfSome result (λ n. n
         ≡ min (length (arriving (lines_of stock.now) (root_in operand.now.root) (ops_in operand.now.chain.items))) (2 ^ 64 - 1)) }
     ensures exact { IfSome result (λ n. known_extent (lines_of stock.now) (root_in operand.now.root) (ops_in operand.now.chain.items) ≡ Extent.Exactly n) }
-    ensures kept { IfSome result (λ _. last ≡ false) }
-    ensures known { (n : ℕ) → last ≡ false → known_extent (lines_of stock.now) (root_in operand.now.root) (ops_in operand.now.chain.items) ≡ Extent.Exactly n
+    ensures known { (n : ℕ) → known_extent (lines_of stock.now) (root_in operand.now.root) (ops_in operand.now.chain.items) ≡ Extent.Exactly n
         → result ≡ Some n }
 {
     match known_extent(stock, operand) {
-        Extent::Exactly(rows) if !last => Some(rows),
-        _ => None,
+        Extent::Exactly(rows) => Some(rows),
+        Extent::AtMost(_) => None,
     }
 }
 

@@ -153,8 +153,8 @@ fn put<'p, R: Threads + Wait + Sync>(
         return Err(ActErr::NoMemory);
     };
     match asked {
-        Asked::Size => size(rt, alloc, way, &mut stock, operand, false, hands, out),
-        Asked::Sum => sum(rt, alloc, way, &mut stock, operand, false, 0, hands, out),
+        Asked::Size => size(rt, alloc, way, &mut stock, operand, hands, out),
+        Asked::Sum => sum(rt, alloc, way, &mut stock, operand, 0, hands, out),
     }
 }
 

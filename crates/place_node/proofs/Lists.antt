@@ -6,17 +6,13 @@ use Rattle.std.proofs.lemmas.List.{take_more}
 use Rattle.std.proofs.lemmas.List.Sums.{sum_by-cons, sum_by_more_le}
 use Rattle.std.proofs.lemmas.List.Elements.{All-head, All-tail}
 use Rattle.block_pool.specs.Handles.{HandValue, Follows}
-use Rattle.block_pool.specs.Follows.{follows_refl, follows_trans}
+use Rattle.block_pool.specs.Follows.{follows_trans}
 use Rattle.dia_file.specs.Files.{FileValue}
+use Rattle.lent_step.proofs.Lists.{zip_more}
 use Rattle.file_sink.specs.Sinks.{SinkValue, KeepsFile, keeps_none}
 use Rattle.scatter.specs.Phases.{AllThree}
-use Rattle.place_node.specs.Ending.{IsBack, IsPartFrom, IsPartIn, IsFileFrom, part_rows, rows_taken}
-
-pub zip_more : {A B : Type 0} (R : A → B → Type 0) (xs : List A) (ys : List B) (x : A) (y : B) → AllZip R xs ys → R x y → AllZip R (xs ++ x ∷ []) (ys ++ y ∷ [])
-zip_more R [] [] x y h r = (r, tt)
-zip_more R [] (b ∷ ys) x y h r = absurd h
-zip_more R (a ∷ xs) [] x y h r = absurd h
-zip_more R (a ∷ xs) (b ∷ ys) x y h r = (h.0, zip_more R xs ys x y h.1 r)
+use Rattle.scatter.specs.Clearing.{IsPartIn}
+use Rattle.place_node.specs.Ending.{IsBack, IsPartFrom, IsFileFrom, part_rows, rows_taken}
 
 -- hands after the end of their sinks are later states
 pub back_follows : (ss : List SinkValue) (hs bs : List HandValue) → AllThree IsBack ss hs bs → AllZip Follows hs bs
@@ -89,19 +85,9 @@ many_at parts i room most part below is so_far many =
     let same : part_rows (get_or parts i part) ≡ part_rows part = ap part_rows is in
     omega arith
 
-pub follow_refl : (hs : List HandValue) → AllZip Follows hs hs
-follow_refl [] = tt
-follow_refl (a ∷ hs) = (follows_refl a, follow_refl hs)
-
 pub keep_refl : (ss : List SinkValue) → AllZip KeepsFile ss ss
 keep_refl [] = tt
 keep_refl (s ∷ ss) = (keeps_none s, keep_refl ss)
-
-pub zip_long : {A B : Type 0} (R : A → B → Type 0) (xs : List A) (ys : List B) → AllZip R xs ys → length xs ≡ length ys
-zip_long R [] [] h = refl
-zip_long R [] (y ∷ ys) h = absurd h
-zip_long R (x ∷ xs) [] h = absurd h
-zip_long R (x ∷ xs) (y ∷ ys) h = ap suc (zip_long R xs ys h.1)
 
 -- one more of the second list's elements
 pub zip_next : {A B : Type 0} (R : A → B → Type 0) (xs : List A) (ys : List B) (i : ℕ) (x : A) (y : B) → i < length ys → y ≡ get_or ys i y → AllZip R xs (take i ys) → R x y

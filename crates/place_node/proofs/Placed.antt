@@ -33,7 +33,7 @@ use Rattle.place_node.specs.declared.ending.End.TheVariants.{Finish, Cancel}
 use Rattle.place_node.specs.declared.node_err.NodeErr.{NodeErr}
 use Rattle.place_node.specs.declared.node_err.NodeErr.TheVariants as errs
 use Rattle.place_node.specs.Placing.{HasTwoPermits, rows_of, node_refusal, PlaceRefused}
-use Rattle.place_node.proofs.Lists.{zip_long}
+use Rattle.scatter.proofs.Threes.{zip_long}
 use Rattle.place_node.specs.Ending.{IsFreshSink, CanEnd, IsBack, IsFileFrom, rows_taken}
 
 pub fresh_long : (kinds : List Kind) (ss : List SinkValue) (hs : List HandValue) → AllZip (IsFreshSink kinds) ss hs → length ss ≡ length hs

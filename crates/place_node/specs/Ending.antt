@@ -48,10 +48,6 @@ abbrev pub IsPartFrom : SinkValue → HandValue → Option FileValue → Type 0
 IsPartFrom s b None = ⊤
 IsPartFrom s b (Some f) = IsFileFrom s b f
 
-abbrev pub IsPartIn : HandValue → Option FileValue → Type 0
-IsPartIn b None = ⊤
-IsPartIn b (Some f) = IsFileOf b.pool f
-
 abbrev pub part_rows : Option FileValue → ℕ
 part_rows None = 0
 part_rows (Some f) = length f.rows

@@ -55,7 +55,6 @@ fn place_phase<'p, R: Threads + Wait + Sync, G: Gate + Sync, D: Disk + Send + Sy
     way: &mut Way<'_, G>,
     stock: &mut Stock<X>,
     operand: &Operand,
-    last: bool,
     hands: &mut Vec<Hand<'p, D>>,
     sinks: &mut Vec<FileSink<'p, D>>,
 ) -> Result<(), FeedErr<PushErr>>
@@ -68,13 +67,13 @@ fn place_phase<'p, R: Threads + Wait + Sync, G: Gate + Sync, D: Disk + Send + Sy
     requires fresh { AllZip (IsFreshSink (kind_list operand.now.kinds)) sinks.old.items hands.old.items }
 
     ensures sent { OnOk result (HasSent ⟦<FileSink<'p, D> as RowSink>⟧
-        (root_feeds (lines_of stock.old) stock.old.workers (root_in operand.now.root) last (ops_in operand.now.chain.items))
+        (root_feeds (lines_of stock.old) stock.old.workers (root_in operand.now.root) operand.now.last (ops_in operand.now.chain.items))
         sinks.old.items hands.old.items sinks.new.items hands.new.items) }
     ensures stopped { IfErr result (λ e. (e ≡ FeedErr.NoMemory) ⊎ HasStopped ⟦<FileSink<'p, D> as RowSink>⟧
-        (root_feeds (lines_of stock.old) stock.old.workers (root_in operand.now.root) last (ops_in operand.now.chain.items))
+        (root_feeds (lines_of stock.old) stock.old.workers (root_in operand.now.root) operand.now.last (ops_in operand.now.chain.items))
         sinks.old.items hands.old.items sinks.new.items hands.new.items e) }
-    ensures lines { OnOk result (IsUsed (lines_of stock.old) (root_in operand.now.root) last (lines_of stock.new)) }
-    ensures left { OnErr result (IsUsed (lines_of stock.old) (root_in operand.now.root) last (lines_of stock.new) ⊎ (stock.new ≡ stock.old)) }
+    ensures lines { OnOk result (IsUsed (lines_of stock.old) (root_in operand.now.root) operand.now.last (lines_of stock.new)) }
+    ensures left { OnErr result (IsUsed (lines_of stock.old) (root_in operand.now.root) operand.now.last (lines_of stock.new) ⊎ (stock.new ≡ stock.old)) }
 
     // On every answer.
     ensures stays { AllZip KeepsFile sinks.old.items sinks.new.items }
@@ -83,7 +82,12 @@ fn place_phase<'p, R: Threads + Wait + Sync, G: Gate + Sync, D: Disk + Send + Sy
     ensures workers { stock.new.workers ≡ stock.old.workers }
 {
     let mut phase: Phase<'p, D, X, FileSink<'p, D>> = match Phase::begin(
-        alloc, stock, operand, last, hands, sinks,
+        alloc,
+        stock,
+        operand,
+        operand.last,
+        hands,
+        sinks,
     ) {
         Ok(phase) => phase,
         Err(NoMemory) => return Err(FeedErr::NoMemory),
@@ -112,7 +116,6 @@ pub(crate) fn cache<'p, R: Threads + Wait + Sync, G: Gate + Sync, D: Disk + Send
     way: &mut Way<'_, G>,
     stock: &mut Stock<X>,
     operand: &Operand,
-    last: bool,
     hands: &mut Vec<Hand<'p, D>>,
 ) -> Result<Vec<File>, NodeErr>
     requires few { vec_len hands.old ≤ MOST_TASKS }
@@ -130,20 +133,20 @@ pub(crate) fn cache<'p, R: Threads + Wait + Sync, G: Gate + Sync, D: Disk + Send
     ensures few { IfOk result (λ files. length (rows_of files.items) ≤ most_rows) }
     ensures permits { OnOk result (AllZip (λ (a b : HandValue). b.permits ≡ a.permits) hands.old.items hands.new.items) }
     ensures refused { IfErr result (PlaceRefused (lines_of stock.old) (root_in operand.now.root) (ops_in operand.now.chain.items) hands.old.items hands.new.items) }
-    ensures lines { OnOk result (IsUsed (lines_of stock.old) (root_in operand.now.root) last (lines_of stock.new)) }
-    ensures left { OnErr result (IsUsed (lines_of stock.old) (root_in operand.now.root) last (lines_of stock.new) ⊎ (stock.new ≡ stock.old)) }
+    ensures lines { OnOk result (IsUsed (lines_of stock.old) (root_in operand.now.root) operand.now.last (lines_of stock.new)) }
+    ensures left { OnErr result (IsUsed (lines_of stock.old) (root_in operand.now.root) operand.now.last (lines_of stock.new) ⊎ (stock.new ≡ stock.old)) }
 
     // On every answer.
     ensures follows { AllZip Follows hands.old.items hands.new.items }
     ensures net { stock.new.net ≡ stock.old.net }
     ensures workers { stock.new.workers ≡ stock.old.workers }
 {
-    stock.joined(operand, last);
+    stock.joined(operand, operand.last);
     let (room, mut sinks) = match made_ready(alloc, operand.kinds, hands) {
         Ok(ready) => ready,
         Err(NoMemory) => return Err(NodeErr::NoMemory),
     };
-    match place_phase(rt, alloc, way, stock, operand, last, hands, &mut sinks) {
+    match place_phase(rt, alloc, way, stock, operand, hands, &mut sinks) {
         Ok(()) => keep_all(rt, alloc, hands, sinks, room),
         Err(fault) => {
             cancel_all(rt, alloc, hands, sinks, room);

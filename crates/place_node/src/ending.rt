@@ -1,9 +1,8 @@
 //! The end of sinks, each by its worker's hand.
 ghost use Rattle.std.specs.Prelude.{◌≡◌, ◌≤◌, IfOk, vec_len, vec_capacity};
 ghost use Rattle.std.specs.List.{AllZip};
-ghost use Rattle.block_pool.specs.Handles.{Follows};
 ghost use Rattle.scatter.specs.Phases.{AllThree};
-ghost use Rattle.place_node.specs.Ending.{CanEnd, IsBack, IsPartFrom, IsPartIn, HasRoomFor};
+ghost use Rattle.place_node.specs.Ending.{CanEnd, IsBack, IsPartFrom, HasRoomFor};
 
 use block_pool::Hand;
 use dia_edge::{Disk, NoMemory};
@@ -93,36 +92,4 @@ pub(crate) fn end_all<'p, R: Wait, D: Disk>(
         hands: ended,
         parts,
     }
-}
-
-/// Frees the blocks of a file, where there is one.
-fn clear_one<R: Wait, D: Disk>(rt: &R, hand: &mut Hand<'_, D>, part: Option<File>)
-    requires { IsPartIn hand.old part }
-    ensures { Follows hand.old hand.new }
-{
-    if let Some(file) = part {
-        file.clear(rt, hand);
-    }
-}
-
-/// Frees the blocks of each file with its worker's hand; the hands go to where there is room. It takes no memory.
-pub(crate) fn clear_all<'p, R: Wait, D: Disk>(
-    rt: &R,
-    hands: Vec<Hand<'p, D>>,
-    parts: Vec<Option<File>>,
-    mut cleared: Vec<Hand<'p, D>>,
-) -> Vec<Hand<'p, D>>
-    requires own { AllZip IsPartIn hands.items parts.items }
-    requires room { (vec_len cleared ≡ 0) × (vec_len hands ≤ vec_capacity cleared) }
-    ensures { AllZip Follows hands.entry.items result.items }
-{
-    let mut parts = parts.into_iter();
-    for mut hand in hands {
-        let Some(part) = parts.next() else {
-            unreachable!()
-        };
-        clear_one(rt, &mut hand, part);
-        cleared.push_reserved(hand);
-    }
-    cleared
 }

@@ -9,13 +9,14 @@ ghost use Rattle.place_node.specs.Rooms.{IsRoomFor};
 ghost use Rattle.place_node.specs.declared.ending.End.TheVariants.{Finish, Cancel};
 ghost use Rattle.place_node.specs.declared.node_err.NodeErr.TheVariants as errs;
 
-use crate::ending::{End, Ended, clear_all, end_all};
+use crate::ending::{End, Ended, end_all};
 use crate::node_err::NodeErr;
 use block_pool::Hand;
 use dia_edge::{Disk, NoMemory};
 use dia_file::File;
 use file_sink::FileSink;
 use row_defs::limits::MOST_ROWS;
+use scatter::clear_parts;
 use std::alloc::Global;
 use std::mem;
 use std::sync::Wait;
@@ -133,7 +134,7 @@ pub(crate) fn keep_all<'p, R: Wait, D: Disk>(
             Ok(files_in(parts, files))
         }
         Err(refusal) => {
-            *hands = clear_all(rt, ended, parts, cleared);
+            *hands = clear_parts(rt, ended, parts, cleared);
             Err(refusal)
         }
     }

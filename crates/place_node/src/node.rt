@@ -57,7 +57,6 @@ impl PlaceNode {
         way: &mut Way<'_, G>,
         stock: &mut Stock<X>,
         operand: &Operand,
-        last: bool,
         hands: &mut Vec<Hand<'p, D>>,
     ) -> Result<Vec<File>, NodeErr>
         requires few { vec_len hands.old ≤ MOST_TASKS }
@@ -75,8 +74,8 @@ impl PlaceNode {
         ensures few { IfOk result (λ files. length (rows_of files.items) ≤ most_rows) }
         ensures permits { OnOk result (AllZip (λ (a b : HandValue). b.permits ≡ a.permits) hands.old.items hands.new.items) }
         ensures refused { IfErr result (PlaceRefused (lines_of stock.old) (root_in operand.now.root) (ops_in operand.now.chain.items) hands.old.items hands.new.items) }
-        ensures lines { OnOk result (IsUsed (lines_of stock.old) (root_in operand.now.root) last (lines_of stock.new)) }
-        ensures left { OnErr result (IsUsed (lines_of stock.old) (root_in operand.now.root) last (lines_of stock.new) ⊎ (stock.new ≡ stock.old)) }
+        ensures lines { OnOk result (IsUsed (lines_of stock.old) (root_in operand.now.root) operand.now.last (lines_of stock.new)) }
+        ensures left { OnErr result (IsUsed (lines_of stock.old) (root_in operand.now.root) operand.now.last (lines_of stock.new) ⊎ (stock.new ≡ stock.old)) }
 
         // On every answer.
         ensures follows { AllZip Follows hands.old.items hands.new.items }
@@ -84,7 +83,7 @@ impl PlaceNode {
         ensures workers { stock.new.workers ≡ stock.old.workers }
     {
         match self.what {
-            PlaceFn::Cache => cache(rt, alloc, way, stock, operand, last, hands),
+            PlaceFn::Cache => cache(rt, alloc, way, stock, operand, hands),
         }
     }
 }

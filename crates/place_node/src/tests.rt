@@ -88,9 +88,10 @@ fn numbers(alloc: Global, rows: u64) -> Operand
     }
 }
 
-/// The odd numbers of the line.
-fn odd(alloc: Global) -> Result<Operand, NoMemory>
+/// The odd numbers of the line, at its last use or not.
+fn odd(alloc: Global, last: bool) -> Result<Operand, NoMemory>
     ensures root { IfOk result (λ operand. operand.root ≡ Root.Stored LINE) }
+    ensures last { IfOk result (λ operand. operand.last ≡ last) }
     ensures sound { IfOk result (λ operand. AreSoundOps (Int ∷ []) (ops_in operand.chain.items) (kind_list operand.kinds)) }
 {
     let left = Box::new(alloc, Expr::Column(0))?;
@@ -99,7 +100,7 @@ fn odd(alloc: Global) -> Result<Operand, NoMemory>
     chain.push(ScriptOp::Filter(Expr::Math(Math::Mod, left, right)))?;
     Ok(Operand {
         root: Root::Stored(LINE),
-        last: false,
+        last,
         kinds: Kinds::one(Kind::Int),
         chain,
     })
@@ -135,7 +136,7 @@ fn store<'p, R: Threads + Wait + Sync>(
     let _ = pool;
     let operand = numbers(alloc, rows);
     let node = PlaceNode::new(PlaceFn::Cache);
-    let files = match node.run(rt, alloc, way, stock, &operand, false, hands) {
+    let files = match node.run(rt, alloc, way, stock, &operand, hands) {
         Ok(files) => files,
         Err(refusal) => return Err(refusal),
     };
@@ -165,11 +166,11 @@ fn cache_odd<'p, R: Threads + Wait + Sync>(
     ensures stocked { OnOk result (last ≡ false → IsStocked (pools_of hands.new.items) LINE (lines_of stock.new)) }
 {
     let _ = pool;
-    let Ok(operand) = odd(alloc) else {
+    let Ok(operand) = odd(alloc, last) else {
         return Err(NodeErr::NoMemory);
     };
     let node = PlaceNode::new(PlaceFn::Cache);
-    match node.run(rt, alloc, way, stock, &operand, last, hands) {
+    match node.run(rt, alloc, way, stock, &operand, hands) {
         Ok(files) => Ok(rows_in(files.as_slice())),
         Err(refusal) => Err(refusal),
     }

@@ -7,3 +7,6 @@ pub mod SentRows
 pub mod Threes
 pub mod Turns
 pub mod Arriving
+pub mod Hands
+pub mod Mailing
+pub mod Posting

@@ -1,6 +1,7 @@
 -- Lists that grow side by side.
 use Rattle.std.proofs.Common.{◌≡◌, ℕ, zero, suc, List, [], ◌∷◌, ◌++◌, length, take, drop, map, refl, ap, sym, ◌∙◌}
 use Rattle.std.proofs.lemmas.List.{map-append}
+use Rattle.std.specs.List.{AllZip}
 use Rattle.lent_step.specs.Lending.{AllRan}
 use Rattle.scatter.specs.Phases.{AllThree}
 
@@ -30,3 +31,9 @@ pub ran_long : {W H : Type 0} (R : W → H → W → H → Type 0) (ws : List W)
 ran_long R [] [] [] [] h = (refl, refl, refl)
 ran_long R (w ∷ ws) (a ∷ hs) (v ∷ vs) (b ∷ bs) h = let rest = ran_long R ws hs vs bs h.1 in (ap suc rest.0, ap suc rest.1, ap suc rest.2)
 ran_long R _ _ _ _ h = absurd h
+
+pub zip_long : {A B : Type 0} (R : A → B → Type 0) (xs : List A) (ys : List B) → AllZip R xs ys → length xs ≡ length ys
+zip_long R [] [] h = refl
+zip_long R [] (y ∷ ys) h = absurd h
+zip_long R (x ∷ xs) [] h = absurd h
+zip_long R (x ∷ xs) (y ∷ ys) h = ap suc (zip_long R xs ys h.1)

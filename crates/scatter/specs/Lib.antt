@@ -10,3 +10,6 @@ pub mod Stocks
 pub mod Worked
 pub mod Begun
 pub mod Told
+pub mod Clearing
+pub mod Carrying
+pub mod Posted

@@ -8,21 +8,26 @@
 //! sink in `specs/Fitting.antt`, and what they see of a stock in `specs/Lines.antt` and `specs/Stocks.antt`.
 #![tactic(auto)]
 
+mod clearing;
 mod ending;
 mod feed;
 mod feed_err;
 mod feeding;
 mod line;
 mod net;
+mod net_err;
 mod phase;
 mod pushing;
 mod sending;
+mod settling;
 mod steps;
 mod stock;
 
+pub use clearing::{clear_parts, leave_unread};
 pub use feed::Feed;
 pub use feed_err::FeedErr;
 pub use net::{Home, Net};
+pub use net_err::NetErr;
 pub use phase::{Phase, give_back};
 pub use sending::Sending;
 pub use stock::Stock;

@@ -1,23 +1,30 @@
 //! Lines in stock.
-ghost use Rattle.std.specs.Prelude.{◌≡◌, ◌<◌, ◌-◌, ◌^◌, min, ℕ, List, All, map, length, None, Some, IfOk, IfErr, OnOk, OnErr, vec_len, slice_get, slice_set};
+ghost use Rattle.std.specs.Prelude.{◌≡◌, ◌<◌, ◌≤◌, ◌-◌, ◌^◌, ◌↔◌, min, ℕ, true, List, All, map, length, None, Some, IfOk, IfErr, OnOk, OnErr, vec_len, slice_get, slice_set};
 ghost use Rattle.std.specs.List.{AllZip, flat_map};
-ghost use Rattle.block_pool.specs.Handles.{PoolName};
+ghost use Rattle.block_pool.specs.Handles.{PoolName, HandValue, Follows};
 ghost use Rattle.dia_file.specs.Encoding.{AllFit};
 ghost use Rattle.dia_file.specs.Files.{FileValue, IsFileOf};
 ghost use Rattle.lop_chain.specs.Operands.{root_in};
 ghost use Rattle.lop_chain.specs.Ops.{ops_in};
-ghost use Rattle.scatter.specs.Lines.{LineValue, with_parts, first_kinds, HasKinds, Sets, IsLent, HasRoot, root_rows, root_kinds, root_feeds, IsFedFrom};
+ghost use Rattle.multiplexer.specs.Settling.{AreAllEnds};
+ghost use Rattle.scatter.specs.Carrying.{AreForHand, AreMixesOnBytes, IsAnswerOf, IsFrontOf, NotCarried, SendsOwn};
+ghost use Rattle.scatter.specs.Lines.{LineValue, with_parts, first_kinds, HasKinds, Sets, IsWhole, IsLent, HasRoot, root_rows, root_kinds, root_feeds, IsFedFrom};
 
 use crate::feed::Feed;
 use crate::feeding::{chains_of, feed_root};
-use crate::line::{Line, put_back, replace_parts, rows_in_parts};
+use crate::line::{Line, put_back, replace_parts, rows_in_parts, take_parts};
 use crate::net::Net;
-use dia_edge::NoMemory;
+use crate::net_err::NetErr;
+use crate::settling::settle_all;
+use block_pool::Hand;
+use dia_edge::{Disk, NoMemory};
 use dia_file::File;
 use lop_chain::{Operand, Root};
+use multiplexer::{Inbox, Packet, RecvEnd, SendEnd};
 use std::alloc::Global;
 use std::collections::BTreeMap;
 use std::marker::Model;
+use std::sync::Wait;
 
 /// The lines that are stored, by their numbers, and the net that brings blocks between the workers' pools. Contracts see of
 /// each line its kinds and one part per worker, none where that is lent.
@@ -156,6 +163,55 @@ impl<X: Net> Stock<X> {
         ensures workers { self.new.workers ≡ self.old.workers }
     {
         replace_parts(&mut self.lines, line, parts);
+    }
+
+    /// The parts of a line, none of which is lent; the line leaves the stock. It takes no memory and has no refusal.
+    pub fn take(&mut self, line: u32) -> Vec<Option<File>>
+        requires { IsWhole (lines_of self.old) line }
+        ensures parts { (old : LineValue) → lines_of self.old line ≡ Some old → result.items ≡ old.parts }
+        ensures lines { Sets (lines_of self.old) line None (lines_of self.new) }
+        ensures net { self.new.net ≡ self.old.net }
+        ensures workers { self.new.workers ≡ self.old.workers }
+    {
+        take_parts(&mut self.lines, line)
+    }
+
+    /// Settles the mail of all workers, and brings what was sent to the pools of those who are to read it. Each receiver's
+    /// packets that were taken before stand in front. It waits.
+    ///
+    /// The refusals are those of the net's `carry`, and want of memory; what was sent is lost then.
+    pub fn settle<'m, R: Wait, D: Disk>(
+        &mut self,
+        rt: &R,
+        alloc: Global,
+        hands: &mut Vec<Hand<'_, D>>,
+        fronts: Vec<Vec<Packet>>,
+        sends: Vec<SendEnd<'m>>,
+        recvs: Vec<RecvEnd<'m>>,
+    ) -> Result<Vec<Inbox>, NetErr>
+        requires ends { AreAllEnds sends.items recvs.items }
+        requires count { (vec_len recvs ≡ self.old.workers) × (vec_len hands.old ≡ self.old.workers) }
+        requires fronts { AllZip IsFrontOf fronts.items recvs.items }
+        requires own { AllZip SendsOwn hands.old.items sends.items }
+        requires fits { X.fits self.old.net hands.old.items }
+
+        ensures pools { IfOk result (λ boxes. AllZip AreForHand hands.new.items boxes.items) }
+        ensures mixes { IfOk result (λ boxes. X.tells self.old.net ≡ true → AreMixesOnBytes hands.old.items sends.entry.items boxes.items) }
+        ensures tells { OnOk result (X.tells self.old.net ≡ true → X.tells self.new.net ≡ true) }
+        ensures permits { OnOk result (AllZip (λ (a b : HandValue). b.permits ≡ a.permits) hands.old.items hands.new.items) }
+        ensures answered { IfOk result (λ boxes. IsAnswerOf X.answers sends.entry.items boxes) }
+        ensures refused { IfErr result (λ e. NotCarried (X.tells self.old.net) (X.faults self.old.net) (X.faults self.new.net) hands.old.items hands.new.items e) }
+
+        // On every answer.
+        ensures follows { AllZip Follows hands.old.items hands.new.items }
+        ensures fits { (list : List HandValue) → X.fits self.new.net list ↔ X.fits self.old.net list }
+        ensures counts { X.faults self.old.net ≤ X.faults self.new.net }
+        ensures stays { X.stays self.old.net self.new.net }
+        ensures lines { lines_of self.new ≡ lines_of self.old }
+        ensures workers { self.new.workers ≡ self.old.workers }
+    {
+        let boxes = settle_all(rt, alloc, fronts, sends, recvs)?;
+        self.net.carry(rt, alloc, hands, boxes)
     }
 
     /// Ends it: the lines are gone, and their blocks stay in the pools until those end.

@@ -13,6 +13,7 @@ ghost use Rattle.scatter.specs.Worked.{numbers_line, IsStocked};
 ghost use Rattle.scatter.specs.Stocks.{lines_of};
 
 mod keep;
+mod mail;
 
 use crate::{Feed, Home, Stock};
 use block_pool::{Hand, OpenErr, Pass, Permits, Pool};

@@ -17,6 +17,7 @@ use Rattle.input_file.specs.Refusals.{IsDiskFault}
 use Rattle.scatter.specs.Nets.{AreOfOnePool}
 use Rattle.scatter.specs.Phases.{pools_of}
 use Rattle.scatter.specs.Told.{HasPermit, SomeHit}
+use Rattle.scatter.proofs.Hands.{follow_refl, permits_refl}
 use Rattle.place_node.specs.Placing.{HasTwoPermits}
 use Rattle.actions.proofs.SameLines.{all_tell, hit_since}
 use Rattle.script_run.specs.declared.run_err.RunErr.{RunErr}
@@ -38,14 +39,6 @@ two_still [] (b ∷ now) all two = absurd all
 two_still (a ∷ hands) [] all two = absurd all
 two_still (a ∷ hands) (b ∷ now) all two =
     All-cons HasTwoPermits b now (rw all.0 (All-head HasTwoPermits a hands two)) (two_still hands now all.1 (All-tail HasTwoPermits a hands two))
-
-pub follow_refl : (hands : List HandValue) → AllZip Follows hands hands
-follow_refl [] = tt
-follow_refl (a ∷ hands) = (follows_refl a, follow_refl hands)
-
-pub permits_refl : (hands : List HandValue) → AllZip SamePermits hands hands
-permits_refl [] = tt
-permits_refl (a ∷ hands) = (refl, permits_refl hands)
 
 -- the first hand alone changed
 pub first_follows : (a b : HandValue) (rest : List HandValue) → Follows a b → AllZip Follows (a ∷ rest) (b ∷ rest)

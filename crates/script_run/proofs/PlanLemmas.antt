@@ -32,7 +32,8 @@ use Rattle.script_run.specs.Steps.{Does, StopsAt}
 use Rattle.script_run.specs.Weighing.{IsWeighed}
 use Rattle.script_run.proofs.WeighLemmas.{weighed_still}
 use Rattle.script_run.proofs.AskedLemmas.{asked_no_one, asked_next, asked_until}
-use Rattle.script_run.proofs.HandLemmas.{follow_refl, stop_since}
+use Rattle.scatter.proofs.Hands.{follow_refl}
+use Rattle.script_run.proofs.HandLemmas.{stop_since}
 use Rattle.script_run.proofs.ToldLemmas.{told_still}
 
 pub ended_grows : (W W' : List Row → Type 0) (script : Script) (inputs : Inputs) (begun : Option (List ℕ)) (ending : Ending) (taken : Option (List ℕ)) → StillHolds W W'

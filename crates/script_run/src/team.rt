@@ -164,7 +164,6 @@ impl<'s, 'p, 'g, D: Disk + Send + Sync, G: Gate + Sync> Team<'s, 'p, 'g, D, G> {
             &mut self.way,
             &mut self.stock,
             operand,
-            operand.last,
             &mut self.hands,
         ) {
             Ok(files) => {
@@ -202,7 +201,6 @@ impl<'s, 'p, 'g, D: Disk + Send + Sync, G: Gate + Sync> Team<'s, 'p, 'g, D, G> {
             &mut self.stock,
             action,
             operand,
-            operand.last,
             &mut self.hands,
             &mut self.buffer,
             out,

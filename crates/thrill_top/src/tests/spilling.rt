@@ -140,6 +140,19 @@ fn a_disk_that_fails_ends_the_call(rt: HostRuntime) -> Result<(), Fail> {
     Ok(())
 }
 
+#[test]
+fn a_size_reads_no_block_at_a_lists_last_use(rt: HostRuntime) -> Result<(), Fail> {
+    let alloc = rt.alloc();
+    let script = b"g = generate 200000\nc = cache g\nsize c\n";
+    let seen = prints(&rt, alloc, &with_words(SMALL, script), b"200000\n")?;
+    let case = Case {
+        disk_fails: seen.end.disk.write_count() + 1,
+        ..with_words(SMALL, script)
+    };
+    prints(&rt, alloc, &case, b"200000\n")?;
+    Ok(())
+}
+
 /// The schedules, threads among them.
 const SCHEDULES: &[&str] = &["--schedule=0", "--schedule=1", "--schedule=2"];
 

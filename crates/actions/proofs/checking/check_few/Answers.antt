@@ -1,4 +1,4 @@
-use Rattle.feed_actions.proofs.Counts.{follow_refl, permits_refl}
+use Rattle.scatter.proofs.Hands.{follow_refl, permits_refl}
 use Rattle.actions.proofs.checking.check_few.Goals as goal
 
 pub returns-in-Ok-clause-permits : goal.returns-in-Ok-clause-permits

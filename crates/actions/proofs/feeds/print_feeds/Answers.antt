@@ -8,7 +8,7 @@ use Rattle.scatter.specs.Feeds.{FeedValue}
 use Rattle.scatter.proofs.Making.{yield_more, one_longer, drop_more}
 use Rattle.scatter.proofs.Threes.{take_next, map_push}
 use Rattle.actions.specs.Printing.{CanPrint}
-use Rattle.actions.proofs.Snoc.{zip_more}
+use Rattle.lent_step.proofs.Lists.{zip_more}
 use Rattle.actions.proofs.Grown.{printed_next, permits_next}
 use Rattle.actions.proofs.feeds.print_feeds.Goals as goal
 

@@ -15,7 +15,7 @@ use Rattle.dia_edge.specs.declared.refusals.Failed.{Failed}
 use Rattle.scatter.specs.Told.{AreTold}
 use Rattle.scatter.specs.Begun.{IsNew}
 use Rattle.scatter.proofs.Rooted.{root_new, root_ops, used, whole_again, GoesThrough}
-use Rattle.feed_actions.proofs.Counts.{follow_refl}
+use Rattle.scatter.proofs.Hands.{follow_refl}
 use Rattle.actions.specs.Printing.{rows_of_feeds, AreToldFeeds, CanPrint, HasPrinted}
 use Rattle.actions.proofs.Grown.{first_none, printed_as}
 use Rattle.actions.proofs.Roots.{can_print, told_feeds, rows_arrive}
@@ -40,9 +40,9 @@ print_feeds-ended-requires-clause-can g c =
     let lines = lines_of c.args.stock.now in
     let hands = c.args.hands.now.items in
     let fs = c.in-Ok-feeds.feeds.items in
-    let feeds : fs ≡ root_feeds lines c.args.stock.now.workers root c.args.last ops = c.in-Ok-feeds.ensures.feeds in
-    let new : All IsNew fs = subst (λ l. All IsNew l) (sym feeds) (root_new lines c.args.stock.now.workers root c.args.last ops) in
-    let through : All (GoesThrough ops) fs = subst (λ l. All (GoesThrough ops) l) (sym feeds) (root_ops lines c.args.stock.now.workers root c.args.last ops) in
+    let feeds : fs ≡ root_feeds lines c.args.stock.now.workers root c.args.operand.now.last ops = c.in-Ok-feeds.ensures.feeds in
+    let new : All IsNew fs = subst (λ l. All IsNew l) (sym feeds) (root_new lines c.args.stock.now.workers root c.args.operand.now.last ops) in
+    let through : All (GoesThrough ops) fs = subst (λ l. All (GoesThrough ops) l) (sym feeds) (root_ops lines c.args.stock.now.workers root c.args.operand.now.last ops) in
     let long : length (pools_of hands) ≡ c.args.stock.now.workers = length-map hands (λ (a : HandValue). a.pool) ∙ (let n = c.requires.long in omega arith) in
     let own : FeedsAreInPools (pools_of hands) fs = c.in-Ok-feeds.ensures.own (pools_of hands) long c.requires.own in
     let sound = c.requires.sound in
@@ -57,15 +57,15 @@ returns-clause-prints g c =
     let workers = c.args.stock.now.workers in
     let hands = c.args.hands.now.items in
     let fs = c.in-Ok-feeds.feeds.items in
-    let feeds : fs ≡ root_feeds lines workers root c.args.last ops = c.in-Ok-feeds.ensures.feeds in
+    let feeds : fs ≡ root_feeds lines workers root c.args.operand.now.last ops = c.in-Ok-feeds.ensures.feeds in
     let count : vec_len c.in-Ok-feeds.feeds ≡ workers = c.in-Ok-feeds.ensures.count in
     let len = c.requires.long in
-    let long : length (root_feeds lines workers root c.args.last ops) ≡ length hands = ap length (sym feeds) ∙ omega (arith, count, len) in
-    let rows = rows_arrive lines workers root c.args.last ops fs feeds c.in-Ok-feeds.ensures.rows in
+    let long : length (root_feeds lines workers root c.args.operand.now.last ops) ≡ length hands = ap length (sym feeds) ∙ omega (arith, count, len) in
+    let rows = rows_arrive lines workers root c.args.operand.now.last ops fs feeds c.in-Ok-feeds.ensures.rows in
     let all = subst (λ v. HasPrinted g.S.Sink (AreToldFeeds fs v.items) (rows_of_feeds fs) v.items c.args.out.now c.args.buffer.now c.print_feeds-ended.result.answer
     c.print_feeds-ended.result.hands.items c.print_feeds-ended.new.out c.print_feeds-ended.new.buffer) c.replace-moved.ensures.value c.print_feeds-ended.ensures.prints in
     printed_as g.S.Sink (AreToldFeeds fs hands) (AreTold root hands) (rows_of_feeds fs)
-    (λ told. subst (λ l. AreToldFeeds l hands) (sym feeds) (told_feeds lines workers root c.args.last ops hands long told))
+    (λ told. subst (λ l. AreToldFeeds l hands) (sym feeds) (told_feeds lines workers root c.args.operand.now.last ops hands long told))
     c.args.out.now c.print_feeds-ended.new.out c.args.buffer.now c.print_feeds-ended.new.buffer _ rows hands c.print_feeds-ended.result.hands.items c.print_feeds-ended.result.answer all
 
 on_ok : (r : Result (Unit {0}) (FeedErr Failed)) (P : Type 0) → P → OnOk r P
@@ -80,7 +80,7 @@ pub returns-clause-lines : goal.returns-clause-lines
 returns-clause-lines g c =
     let root = root_in c.args.operand.now.root in
     let ops = ops_in c.args.operand.now.chain.items in
-    let last = c.args.last in
+    let last = c.args.operand.now.last in
     let lines = lines_of c.args.stock.now in
     let mid = lines_of c.feeds.new.self in
     let workers = c.args.stock.now.workers in
@@ -97,7 +97,7 @@ pub returns-clause-left : goal.returns-clause-left
 returns-clause-left g c =
     let root = root_in c.args.operand.now.root in
     let ops = ops_in c.args.operand.now.chain.items in
-    let last = c.args.last in
+    let last = c.args.operand.now.last in
     let lines = lines_of c.args.stock.now in
     let mid = lines_of c.feeds.new.self in
     let workers = c.args.stock.now.workers in

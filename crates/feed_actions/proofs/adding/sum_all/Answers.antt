@@ -8,7 +8,8 @@ use Rattle.scatter.specs.Stocks.{lines_of}
 use Rattle.scatter.specs.Told.{arriving}
 use Rattle.feed_actions.specs.Adding.{rows_added, sum_in, column_in}
 use Rattle.scatter.proofs.Arriving.{permits_same}
-use Rattle.feed_actions.proofs.Counts.{follow_refl, counted_all, refused_by}
+use Rattle.scatter.proofs.Hands.{follow_refl}
+use Rattle.feed_actions.proofs.Counts.{counted_all, refused_by}
 use Rattle.feed_actions.proofs.TurnSums.{summed_all}
 use Rattle.feed_actions.proofs.adding.sum_all.Goals as goal
 
@@ -27,7 +28,7 @@ returns-in_err-sum_phase-clause-refused g c =
     let e = c.in_err-sum_phase.field-0.0 in
     let same : c.from_residual.result ≡ Err e = search rules in
     rw same
-    (refused_by _ rows_added (λ s t rows p. p.0) (λ s a row e u b p. p) (lines_of stock) stock.workers (root_in operand.root) c.args.last (ops_in operand.chain.items)
+    (refused_by _ rows_added (λ s t rows p. p.0) (λ s a row e u b p. p) (lines_of stock) stock.workers (root_in operand.root) c.args.operand.now.last (ops_in operand.chain.items)
     sinks c.args.hands.now.items c.sum_phase.new.summers.items c.sum_phase.new.hands.items c.joined.ensures none e c.in_err-sum_phase.ensures.stopped)
 
 pub returns-in-Ok-few-clause-few : goal.returns-in-Ok-few-clause-few
@@ -36,7 +37,7 @@ returns-in-Ok-few-clause-few g c = λ told.
     let operand = c.args.operand.now in
     let sinks = c.in-Ok.summers.items in
     let none : All (λ s. rows_added s ≡ 0) sinks = λ k d below. (c.in-Ok.ensures.fresh k d below).rows in
-    let all = counted_all _ rows_added (λ s t rows p. p.0) (λ s a row e u b p. p) (lines_of stock) stock.workers (root_in operand.root) c.args.last (ops_in operand.chain.items)
+    let all = counted_all _ rows_added (λ s t rows p. p.0) (λ s a row e u b p. p) (lines_of stock) stock.workers (root_in operand.root) c.args.operand.now.last (ops_in operand.chain.items)
     sinks c.args.hands.now.items c.sum_phase.new.summers.items c.sum_phase.new.hands.items c.joined.ensures none c.in_ok-sum_phase.ensures.sent told in
     let n : c.total.result ≡ length (arriving (lines_of stock) (root_in operand.root) (ops_in operand.chain.items)) = c.total.ensures ∙ ap (sum_by rows_added) c.as_slice.ensures.value ∙ all in
     let few : c.total.result ≤ most_rows = search rules in
@@ -48,7 +49,7 @@ returns-in-Ok-few-clause-sum g c = λ told.
     let operand = c.args.operand.now in
     let sinks = c.in-Ok.summers.items in
     let fresh : All (λ s. (sum_in s ≡ 0) × (column_in s ≡ c.args.column)) sinks = λ k d below. ((c.in-Ok.ensures.fresh k d below).sum, (c.in-Ok.ensures.fresh k d below).is_column) in
-    let all = summed_all _ sum_in column_in (λ s t rows p. p.1) c.args.column (lines_of stock) stock.workers (root_in operand.root) c.args.last (ops_in operand.chain.items)
+    let all = summed_all _ sum_in column_in (λ s t rows p. p.1) c.args.column (lines_of stock) stock.workers (root_in operand.root) c.args.operand.now.last (ops_in operand.chain.items)
     sinks c.args.hands.now.items c.sum_phase.new.summers.items c.sum_phase.new.hands.items c.joined.ensures fresh c.in_ok-sum_phase.ensures.sent told in
     let items : c.sum.result ≡ sum_by sum_in c.sum_phase.new.summers.items % 2 ^ 64 = search rules in
     items ∙ all
@@ -64,7 +65,7 @@ returns-clause-refused g c = λ told.
     let operand = c.args.operand.now in
     let sinks = c.in-Ok.summers.items in
     let none : All (λ s. rows_added s ≡ 0) sinks = λ k d below. (c.in-Ok.ensures.fresh k d below).rows in
-    let all = counted_all _ rows_added (λ s t rows p. p.0) (λ s a row e u b p. p) (lines_of stock) stock.workers (root_in operand.root) c.args.last (ops_in operand.chain.items)
+    let all = counted_all _ rows_added (λ s t rows p. p.0) (λ s a row e u b p. p) (lines_of stock) stock.workers (root_in operand.root) c.args.operand.now.last (ops_in operand.chain.items)
     sinks c.args.hands.now.items c.sum_phase.new.summers.items c.sum_phase.new.hands.items c.joined.ensures none c.in_ok-sum_phase.ensures.sent told in
     let n : c.total.result ≡ length (arriving (lines_of stock) (root_in operand.root) (ops_in operand.chain.items)) = c.total.ensures ∙ ap (sum_by rows_added) c.as_slice.ensures.value ∙ all in
     let many : most_rows < c.total.result = search rules in

@@ -1,8 +1,12 @@
+use denote.Param.Send.{sendable}
+use Rattle.std.proofs.Crossing.{crosses}
+use Rattle.feed_crossing.proofs.Crossing.{feed_send}
 use Rattle.std.proofs.Common.{◌≡◌, length, Some, refl, sym, subst, arith}
 use Rattle.std.specs.Prelude.{slice_get}
 use Rattle.row_defs.specs.declared.kind.Kind.TheVariants.{Int}
 use Rattle.feed_actions.specs.Adding.{IsFreshSummer}
-use Rattle.feed_actions.proofs.Counts.{can_take, follow_refl}
+use Rattle.scatter.proofs.Hands.{follow_refl}
+use Rattle.feed_actions.proofs.Counts.{can_take}
 use Rattle.feed_actions.proofs.adding.sum_phase.Goals as goal
 
 pub begin-requires : goal.begin-requires
@@ -56,3 +60,6 @@ finish-requires g c = λ k.
 
 pub returns-in-Err-clause-follows : goal.returns-in-Err-clause-follows
 returns-in-Err-clause-follows g c = follow_refl c.args.hands.now.items
+
+pub run_hands-answer-requires-send-W : goal.run_hands-answer-requires-send-W
+run_hands-answer-requires-send-W g c κs within = search (sendable, crosses, feed_send) depth 60 fits 100000

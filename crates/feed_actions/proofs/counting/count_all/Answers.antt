@@ -8,7 +8,8 @@ use Rattle.scatter.specs.Stocks.{lines_of}
 use Rattle.scatter.specs.Told.{arriving}
 use Rattle.feed_actions.specs.Counting.{rows_counted}
 use Rattle.scatter.proofs.Arriving.{permits_same}
-use Rattle.feed_actions.proofs.Counts.{follow_refl, counted_all, refused_by}
+use Rattle.scatter.proofs.Hands.{follow_refl}
+use Rattle.feed_actions.proofs.Counts.{counted_all, refused_by}
 use Rattle.feed_actions.proofs.counting.count_all.Goals as goal
 
 pub returns-in-Err-clause-follows : goal.returns-in-Err-clause-follows

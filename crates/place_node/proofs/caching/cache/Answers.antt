@@ -12,10 +12,12 @@ use Rattle.scatter.specs.Stocks.{lines_of}
 use Rattle.scatter.specs.Phases.{AllThree, pools_of}
 use Rattle.scatter.specs.Told.{AreTold, arriving}
 use Rattle.scatter.proofs.Threes.{three_long}
+use Rattle.scatter.proofs.Hands.{follow_refl}
+use Rattle.scatter.proofs.Threes.{zip_long}
 use Rattle.place_node.specs.Placing.{rows_of, node_refusal, PlaceRefused}
 use Rattle.place_node.specs.Ending.{IsFileFrom}
 use Rattle.place_node.specs.Rooms.{IsRoomFor}
-use Rattle.place_node.proofs.Lists.{follow_refl, follows_more, zip_long, if_ok, both_ok, on_ok, if_err}
+use Rattle.place_node.proofs.Lists.{follows_more, if_ok, both_ok, on_ok, if_err}
 use Rattle.place_node.proofs.Placed.{fresh_long, can_cancel, files_rows, files_kinds, files_own, taken_is, refused_later, placed_rows, placed_kinds, placed_ends, placed_permits, refused_by, refused_end}
 use Rattle.place_node.proofs.caching.cache.Goals as goal
 
@@ -27,7 +29,7 @@ keep_all-requires-clause-own g c =
     let stock = c.args.stock.now in
     let operand = c.args.operand.now in
     let fresh = rw c.deref.ensures.value at c.in-Ok.ensures.fresh in
-    placed_ends _ (λ s t rows p. p) (λ s a row e u b p. p) (lines_of stock) stock.workers (root_in operand.root) c.args.last (ops_in operand.chain.items) (kind_list operand.kinds)
+    placed_ends _ (λ s t rows p. p) (λ s a row e u b p. p) (lines_of stock) stock.workers (root_in operand.root) c.args.operand.now.last (ops_in operand.chain.items) (kind_list operand.kinds)
     c.in-Ok.ready.1.items c.args.hands.now.items c.place_phase.new.sinks.items c.place_phase.new.hands.items c.joined.ensures fresh (λ s d p. p) (λ s p. p) c.in-Ok-place_phase.ensures.sent
 
 pub cancel_all-requires-clause-own : goal.cancel_all-requires-clause-own
@@ -71,7 +73,7 @@ returns-in-Ok-place_phase-clause-kinds g c =
     let ts = c.place_phase.new.sinks.items in
     let end = c.keep_all.new.hands.items in
     let fresh = rw c.deref.ensures.value at c.in-Ok.ensures.fresh in
-    let are = placed_kinds _ (λ s t rows p. p) (λ s a row e u b p. p) (lines_of stock) stock.workers (root_in operand.root) c.args.last (ops_in operand.chain.items) kinds
+    let are = placed_kinds _ (λ s t rows p. p) (λ s a row e u b p. p) (lines_of stock) stock.workers (root_in operand.root) c.args.operand.now.last (ops_in operand.chain.items) kinds
     c.in-Ok.ready.1.items c.args.hands.now.items ts c.place_phase.new.hands.items c.joined.ensures fresh c.in-Ok-place_phase.ensures.sent in
     if_ok c.keep_all.result (λ files. AllThree IsFileFrom ts end files.items) (λ files. All (HasKinds kinds) files.items)
     (λ files made. files_kinds kinds ts end files.items are made) c.keep_all.ensures.files
@@ -83,7 +85,7 @@ returns-in-Ok-place_phase-clause-rows g c =
     let ts = c.place_phase.new.sinks.items in
     let end = c.keep_all.new.hands.items in
     let fresh = rw c.deref.ensures.value at c.in-Ok.ensures.fresh in
-    let rows = placed_rows _ (λ s t rows p. p) (λ s a row e u b p. p) (lines_of stock) stock.workers (root_in operand.root) c.args.last (ops_in operand.chain.items) (kind_list operand.kinds)
+    let rows = placed_rows _ (λ s t rows p. p) (λ s a row e u b p. p) (lines_of stock) stock.workers (root_in operand.root) c.args.operand.now.last (ops_in operand.chain.items) (kind_list operand.kinds)
     c.in-Ok.ready.1.items c.args.hands.now.items ts c.place_phase.new.hands.items c.joined.ensures fresh c.in-Ok-place_phase.ensures.sent in
     if_ok c.keep_all.result (λ files. AllThree IsFileFrom ts end files.items)
     (λ files. AreTold (root_in operand.root) c.args.hands.now.items → rows_of files.items ≡ arriving (lines_of stock) (root_in operand.root) (ops_in operand.chain.items))
@@ -102,7 +104,7 @@ returns-in-Ok-place_phase-clause-permits g c =
     let operand = c.args.operand.now in
     let fresh = rw c.deref.ensures.value at c.in-Ok.ensures.fresh in
     on_ok c.keep_all.result _ _
-    (placed_permits _ (λ s t rows p. p) (λ s a row e u b p. p) (lines_of stock) stock.workers (root_in operand.root) c.args.last (ops_in operand.chain.items) (kind_list operand.kinds)
+    (placed_permits _ (λ s t rows p. p) (λ s a row e u b p. p) (lines_of stock) stock.workers (root_in operand.root) c.args.operand.now.last (ops_in operand.chain.items) (kind_list operand.kinds)
     c.in-Ok.ready.1.items c.args.hands.now.items c.place_phase.new.sinks.items c.place_phase.new.hands.items c.joined.ensures fresh (λ s t a b p. p) c.keep_all.new.hands.items c.in-Ok-place_phase.ensures.sent)
     c.keep_all.ensures.permits
 
@@ -117,7 +119,7 @@ returns-in-Ok-place_phase-clause-refused g c =
     let end = c.keep_all.new.hands.items in
     let fresh = rw c.deref.ensures.value at c.in-Ok.ensures.fresh in
     if_err c.keep_all.result _ (λ e. PlaceRefused lines root ops hands end e)
-    (λ e why. refused_end _ (λ s t rows p. p) (λ s a row e u b p. p) lines stock.workers root c.args.last ops (kind_list operand.kinds)
+    (λ e why. refused_end _ (λ s t rows p. p) (λ s a row e u b p. p) lines stock.workers root c.args.operand.now.last ops (kind_list operand.kinds)
     c.in-Ok.ready.1.items hands c.place_phase.new.sinks.items c.place_phase.new.hands.items c.joined.ensures fresh e end c.in-Ok-place_phase.ensures.sent why) c.keep_all.ensures.refused
 
 pub returns-in-Ok-place_phase-clause-follows : goal.returns-in-Ok-place_phase-clause-follows
@@ -135,7 +137,7 @@ returns-in-Err-place_phase-clause-refused g c =
     let now = c.place_phase.new.hands.items in
     let e = c.in-Err-place_phase.fault in
     let fresh = rw c.deref.ensures.value at c.in-Ok.ensures.fresh in
-    let why = refused_by _ (λ s t rows p. p) (λ s a row e u b p. p) lines stock.workers root c.args.last ops (kind_list operand.kinds)
+    let why = refused_by _ (λ s t rows p. p) (λ s a row e u b p. p) lines stock.workers root c.args.operand.now.last ops (kind_list operand.kinds)
     c.in-Ok.ready.1.items hands c.place_phase.new.sinks.items now c.joined.ensures fresh e c.in-Err-place_phase.ensures.stopped in
     rw c.refusal_of.ensures (refused_later lines root ops hands now c.cancel_all.new.hands.items (node_refusal e) c.cancel_all.ensures why)
 

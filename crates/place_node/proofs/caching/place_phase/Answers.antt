@@ -1,6 +1,11 @@
+use denote.Param.Send.{sendable}
+use Rattle.std.proofs.Crossing.{crosses}
+use Rattle.feed_crossing.proofs.Crossing.{feed_send}
+use Rattle.atomic_table.proofs.badge.Badge.TheSendSync as badge
 use Rattle.std.proofs.Common.{◌≡◌, length, refl, arith}
 use Rattle.dia_item.specs.KindList.{kind_list}
-use Rattle.place_node.proofs.Lists.{follow_refl, keep_refl}
+use Rattle.scatter.proofs.Hands.{follow_refl}
+use Rattle.place_node.proofs.Lists.{keep_refl}
 use Rattle.place_node.proofs.Placed.{can_take, fresh_long}
 use Rattle.place_node.proofs.caching.place_phase.Goals as goal
 
@@ -59,3 +64,6 @@ returns-in-Err-clause-follows g c = follow_refl c.args.hands.now.items
 
 pub returns-in-Err-clause-stays : goal.returns-in-Err-clause-stays
 returns-in-Err-clause-stays g c = rw c.in-Err.ensures.same_sinks (keep_refl c.args.sinks.now.items)
+
+pub run_hands-answer-requires-send-W : goal.run_hands-answer-requires-send-W
+run_hands-answer-requires-send-W g c κs within = search (sendable, crosses, feed_send, badge.the_send) depth 60 fits 100000

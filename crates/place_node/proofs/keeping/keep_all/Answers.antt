@@ -2,6 +2,7 @@ use Rattle.std.proofs.Common.{◌≤◌, inl, inr, sym, subst, arith}
 use Rattle.row_defs.specs.Limits.{most_rows}
 use Rattle.scatter.specs.Phases.{AllThree}
 use Rattle.scatter.proofs.Threes.{three_long}
+use Rattle.scatter.proofs.Hands.{cleared_follow}
 use Rattle.place_node.specs.Ending.{IsBack, IsPartFrom}
 use Rattle.place_node.proofs.Lists.{back_follows, follows_more, parts_in, files_from, parts_few, parts_all}
 use Rattle.place_node.proofs.keeping.keep_all.Goals as goal
@@ -13,13 +14,13 @@ files_in-requires-clause-room g c =
     let room = c.requires.room.for_files in
     (c.requires.room.no_files, omega (arith, long.1, room))
 
-pub clear_all-requires-clause-own : goal.clear_all-requires-clause-own
-clear_all-requires-clause-own g c =
+pub clear_parts-requires-clause-own : goal.clear_parts-requires-clause-own
+clear_parts-requires-clause-own g c =
     let end = c.end_all-ended in
     parts_in c.args.sinks.items end.result.hands.items end.result.parts.items end.ensures.parts
 
-pub clear_all-requires-clause-room : goal.clear_all-requires-clause-room
-clear_all-requires-clause-room g c =
+pub clear_parts-requires-clause-room : goal.clear_parts-requires-clause-room
+clear_parts-requires-clause-room g c =
     let end = c.end_all-ended in
     let long = three_long IsBack c.args.sinks.items c.replace-moved.result.items end.result.hands.items end.ensures.hands in
     let room = c.requires.room.for_cleared in
@@ -54,4 +55,4 @@ pub returns-in-Err-clause-follows : goal.returns-in-Err-clause-follows
 returns-in-Err-clause-follows g c =
     let end = c.end_all-ended in
     let ended = back_follows c.args.sinks.items c.replace-moved.result.items end.result.hands.items end.ensures.hands in
-    rw (← c.replace-moved.ensures.value) (follows_more c.replace-moved.result.items end.result.hands.items c.clear_all.result.items ended c.clear_all.ensures)
+    rw (← c.replace-moved.ensures.value) (follows_more c.replace-moved.result.items end.result.hands.items c.clear_parts.result.items ended (cleared_follow end.result.parts.items end.result.hands.items c.clear_parts.result.items c.clear_parts.ensures))

@@ -21,8 +21,8 @@ returns-in-Ok-run-clause-len g c =
 
 pub returns-in-Ok-run-clause-stocked : goal.returns-in-Ok-run-clause-stocked
 returns-in-Ok-run-clause-stocked g c = λ kept.
-    still_stocked c.args.hands.now.items c.run.new.hands.items 3 c.in-Ok.operand.root c.args.last (lines_of c.args.stock.now) (lines_of c.run.new.stock)
-    c.run.ensures.follows c.in-Ok.ensures.root c.in-Ok-run.ensures.lines kept c.requires.stocked
+    still_stocked c.args.hands.now.items c.run.new.hands.items 3 c.in-Ok.operand.root c.in-Ok.operand.last (lines_of c.args.stock.now) (lines_of c.run.new.stock)
+    c.run.ensures.follows c.in-Ok.ensures.root c.in-Ok-run.ensures.lines (c.in-Ok.ensures.last ∙ kept) c.requires.stocked
 
 pub returns-clause-own : goal.returns-clause-own
 returns-clause-own g c = all_own (new_pool c.args.pool.now 28 4096) c.args.hands.now.items c.run.new.hands.items c.requires.hands c.run.ensures.follows

@@ -1,4 +1,4 @@
-use Rattle.std.proofs.Common.{◌≡◌, ℕ, ◌∙◌, false, length, subst, arith}
+use Rattle.std.proofs.Common.{◌≡◌, ℕ, ◌∙◌, length, subst, arith}
 use Rattle.std.proofs.lemmas.Slice.Zip.{AllZip-long}
 use Rattle.dia_item.specs.KindList.{kind_list}
 use Rattle.block_pool.specs.Handles.{Follows}
@@ -38,7 +38,7 @@ returns-in-Ok-put-clause-stocked g c =
     let then = lines_of c.run.new.stock in
     let hands = c.args.hands.now.items in
     let files = c.in-Ok.files.items in
-    let used : (m : ℕ) → then m ≡ before m = subst (λ (r : Root). IsUsed before (root_in r) false then) c.numbers-operand.ensures.root c.in-Ok.ensures.lines in
+    let used : (m : ℕ) → then m ≡ before m = subst (λ (r : Root). IsUsed before (root_in r) c.numbers-operand.result.last then) c.numbers-operand.ensures.root c.in-Ok.ensures.lines in
     let long : length files ≡ 2 = let n = c.in-Ok.ensures.count in let two = c.requires.len.1 in omega arith in
     put_stocked hands c.run.new.hands.items 3 (kind_list c.numbers-operand.result.kinds) files then (lines_of c.put.new.self) c.run.ensures.follows c.numbers-operand.ensures.kinds long c.in-Ok.ensures.kinds
     c.in-Ok-put.ensures.lines (c.in-Ok-put.ensures.pools (pools_of hands) (none_in (pools_of hands) before then c.requires.none used) c.in-Ok.ensures.own)

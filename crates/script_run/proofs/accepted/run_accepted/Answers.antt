@@ -5,7 +5,8 @@ use Rattle.script_defs.specs.Needs.{inputs_needed}
 use Rattle.block_pool.specs.Handles.{HandValue, Follows}
 use Rattle.script_run.specs.Weighing.{IsWeighed}
 use Rattle.script_run.proofs.AskedLemmas.{asked_no_one}
-use Rattle.script_run.proofs.HandLemmas.{follow_refl, same_count}
+use Rattle.scatter.proofs.Hands.{follow_refl}
+use Rattle.script_run.proofs.HandLemmas.{same_count}
 use Rattle.script_run.proofs.PlanLemmas.{nothing_done}
 use Rattle.script_run.proofs.accepted.run_accepted.Goals as goal
 

@@ -1,7 +1,7 @@
 use Rattle.std.proofs.Common.{◌≡◌, length, rules, refl}
 use Rattle.scatter.specs.Phases.{pools_of}
 use Rattle.script_run.specs.Held.{held_of}
-use Rattle.script_run.proofs.HandLemmas.{follow_refl}
+use Rattle.scatter.proofs.Hands.{follow_refl}
 use Rattle.script_run.proofs.StepLemmas.{put_ready}
 use Rattle.script_run.proofs.team.Team.put.Goals as goal
 
