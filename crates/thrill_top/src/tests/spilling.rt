@@ -146,7 +146,7 @@ fn a_size_reads_no_block_at_a_lists_last_use(rt: HostRuntime) -> Result<(), Fail
     let script = b"g = generate 200000\nc = cache g\nsize c\n";
     let seen = prints(&rt, alloc, &with_words(SMALL, script), b"200000\n")?;
     let case = Case {
-        disk_fails: seen.end.disk.write_count() + 1,
+        disk_fails: seen.end.disk.write_count().saturating_add(1),
         ..with_words(SMALL, script)
     };
     prints(&rt, alloc, &case, b"200000\n")?;
