@@ -56,7 +56,7 @@ pub(crate) fn int_column(row: &RowRef<'_>, i: u32) -> u64
 
 /// A column of kind Text.
 #[inline(always)]
-fn text_column<'a>(row: &RowRef<'a>, i: u32) -> &'a [u8]
+pub(crate) fn text_column<'a>(row: &RowRef<'a>, i: u32) -> &'a [u8]
     requires { slice_get (kinds_of (row_in_ref row.now)) i ≡ Some Text }
     ensures value { slice_index_or (row_in_ref row.now) i (int 0) ≡ text result.now }
     ensures short { length result.now ≤ longest_text }

@@ -1,6 +1,7 @@
-//! What is computed of an expression of kind Int: what is constant is a number, an operand that is a column or a number
-//! needs no step of its own, and a division by a number is a product.
-ghost use Rattle.std.specs.Prelude.{◌≡◌, IfOk};
+//! What is computed of an expression of kind Int: what is constant is a number, an operand that is a column, its length
+//! or a number needs no step of its own, a division by a number is a product, and a comparison with a number or a text
+//! that stands there looks at no kinds.
+ghost use Rattle.std.specs.Prelude.{◌≡◌, IfOk, IfSome};
 ghost use Rattle.row_defs.specs.Rows.{int, kinds_of};
 ghost use Rattle.row_defs.specs.Values.{number, math as math_of, value_of};
 ghost use Rattle.row_defs.specs.declared.kind.Kind.TheVariants.{Int};
@@ -10,9 +11,10 @@ ghost use Rattle.dia_expr.specs.Typing.{HasKind};
 ghost use Rattle.dia_expr.specs.Nodes.{node_in, Computes};
 
 use crate::divisor::Divisor;
-use crate::evaluate::{int_column, int_made};
-use crate::expr::{Expr, Math};
-use crate::math::math;
+use crate::evaluate::{int_column, int_made, text_column};
+use crate::expr::{Comparison, Expr, Literal, Math};
+use crate::math::{compared, math};
+use crate::texts::number_spelled;
 use dia_edge::NoMemory;
 use dia_item::RowRef;
 use std::alloc::Global;
@@ -32,6 +34,14 @@ pub(crate) enum Node {
     Quotient(Box<Node>, Divisor),
     /// The remainder.
     Remainder(Box<Node>, Divisor),
+    /// How many bytes the text in the column with this number has.
+    Length(u32),
+    /// The number that the text in the column with this number spells; 0 where it spells none.
+    Numeral(u32),
+    /// 1 where a number stands so to one that stands there, else 0.
+    Compared(Comparison, Box<Node>, u64),
+    /// 1 where the text in the column with this number stands so to one that stands there, else 0.
+    ComparedText(Comparison, u32, Literal),
     /// A number made of two.
     OfTwo(Math, Box<Node>, Box<Node>),
     /// An expression that isn't made ready.
@@ -73,7 +83,46 @@ fn of_two(alloc: Global, op: Math, a: Node, b: Node) -> Result<Node, NoMemory>
     }
 }
 
+/// What computes a number of the text in a column, where the expression is one.
+fn of_text_column(expr: &Expr) -> Option<Node>
+    ensures { IfSome result (λ node. node_in node ≡ expr_in expr.now) }
+{
+    match expr {
+        Expr::Len(t) => match &**t {
+            Expr::Column(i) => Some(Node::Length(*i)),
+            _ => None,
+        },
+        Expr::Num(t) => match &**t {
+            Expr::Column(i) => Some(Node::Numeral(*i)),
+            _ => None,
+        },
+        _ => None,
+    }
+}
+
+/// What computes a comparison with a number or a text that stands there, where it is one.
+#[cycle(make)]
+fn of_comparison(alloc: Global, expr: &Expr) -> Result<Option<Node>, NoMemory>
+    ensures { IfOk result (λ made. IfSome made (λ node. Computes (node_in node) (expr_in expr.now))) }
+{
+    match expr {
+        Expr::Compare(op, x, y) => match (&**x, &**y) {
+            (x, Expr::Number(n)) => {
+                let a = boxed(alloc, node_of(alloc, x)?)?;
+                Ok(Some(Node::Compared(*op, a, *n)))
+            }
+            (Expr::Column(i), Expr::Literal(t)) => {
+                let t = Literal::of(alloc, t.bytes())?;
+                Ok(Some(Node::ComparedText(*op, *i, t)))
+            }
+            _ => Ok(None),
+        },
+        _ => Ok(None),
+    }
+}
+
 /// What computes an expression.
+#[cycle(make)]
 pub(crate) fn node_of(alloc: Global, expr: &Expr) -> Result<Node, NoMemory>
     ensures { IfOk result (λ node. Computes (node_in node) (expr_in expr.now)) }
 {
@@ -85,7 +134,14 @@ pub(crate) fn node_of(alloc: Global, expr: &Expr) -> Result<Node, NoMemory>
             let b = node_of(alloc, b)?;
             of_two(alloc, *op, a, b)
         }
-        _ => Ok(Node::Other(expr.copy(alloc)?)),
+        Expr::Compare(..) => match of_comparison(alloc, expr)? {
+            Some(node) => Ok(node),
+            None => Ok(Node::Other(expr.copy(alloc)?)),
+        },
+        _ => match of_text_column(expr) {
+            Some(node) => Ok(node),
+            None => Ok(Node::Other(expr.copy(alloc)?)),
+        },
     }
 }
 
@@ -108,6 +164,10 @@ pub(crate) fn node_value<'a>(node: &'a Node, row: &RowRef<'a>) -> u64
             let b = operand(b, row);
             math(*op, a, b)
         }
+        Node::Length(i) => text_column(row, *i).len() as u64,
+        Node::Numeral(i) => number_spelled(text_column(row, *i)).unwrap_or(0),
+        Node::Compared(op, a, n) => compared(*op, operand(a, row).cmp(n)),
+        Node::ComparedText(op, i, t) => compared(*op, text_column(row, *i).cmp(t.bytes())),
         Node::Other(expr) => int_made(expr, row),
     }
 }
@@ -123,6 +183,7 @@ fn operand<'a>(node: &'a Node, row: &RowRef<'a>) -> u64
         Node::Column(i) => int_column(row, *i),
         Node::Number(n) => *n,
         Node::OfColumn(op, i, n) => math(*op, int_column(row, *i), *n),
+        Node::Length(i) => text_column(row, *i).len() as u64,
         _ => operand_made(node, row),
     }
 }

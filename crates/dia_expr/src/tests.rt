@@ -46,7 +46,7 @@ fn is_worth(alloc: Global, text: &[u8], row: RowRef<'_>, want: Field<'_>) -> Res
 #[test]
 fn numbers_are_computed(rt: HostRuntime) -> Result<(), Fail> {
     let row = row_of_six(rt.alloc())?;
-    let cases: [(&[u8], u64); 39] = [
+    let cases: [(&[u8], u64); 43] = [
         (b"f1", 5),
         (b"mod f2 f1", 0),
         (b"mod mul f2 f1 1000003", 350_682),
@@ -77,6 +77,10 @@ fn numbers_are_computed(rt: HostRuntime) -> Result<(), Fail> {
         (b"lt f4 'abc", 1),
         (b"lt 10 9", 0),
         (b"le 5 f1", 1),
+        (b"le f1 5", 1),
+        (b"lt len f0 13", 0),
+        (b"eq num f5 7", 1),
+        (b"le f5 '0", 0),
         (b"if f1 1 2", 1),
         (b"if 0 1 2", 2),
         (b"len f0", 13),

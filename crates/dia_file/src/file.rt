@@ -1,5 +1,5 @@
 //! Finished files.
-ghost use Rattle.std.specs.Prelude.{◌≡◌, length};
+ghost use Rattle.std.specs.Prelude.{◌≡◌, ◌≤◌, length, vec_len, vec_capacity};
 ghost use Rattle.dia_item.specs.KindList.{kind_list};
 ghost use Rattle.block_pool.specs.Handles.{Follows};
 ghost use Rattle.dia_file.specs.Encoding.{encoded, AllFit};
@@ -8,8 +8,8 @@ ghost use Rattle.dia_file.specs.Tallies.{Frees};
 use crate::consume::ConsumeReader;
 use crate::keep::KeepReader;
 use crate::place::{After, Place};
-use crate::sealed::{Sealed, free_all};
-use block_pool::Hand;
+use crate::sealed::{Sealed, blocks_in, free_all};
+use block_pool::{BlockRef, Hand};
 use dia_edge::Disk;
 use dia_item::Kinds;
 use std::collections::VecDeque;
@@ -115,6 +115,21 @@ impl File {
             here: 0,
             kept: 0,
         }
+    }
+
+    /// The blocks, in order: none is empty, and joined they are the encoded rows. The room is empty, and large enough for
+    /// all of them.
+    pub fn into_blocks(self, room: Vec<BlockRef>) -> Vec<BlockRef>
+        requires room { (vec_len room ≡ 0) × (length self.blocks ≤ vec_capacity room) }
+        ensures { result.items ≡ self.blocks }
+    {
+        let File {
+            kinds: _,
+            rows: _,
+            bytes: _,
+            sealed,
+        } = self;
+        blocks_in(sealed, room)
     }
 
     /// Frees all blocks, and no other. It has no refusal.

@@ -1,9 +1,9 @@
 //! Bytes that are put into blocks, one after the other.
-ghost use Rattle.std.specs.Prelude.{◌≡◌, ◌+◌, ◌<◌, ◌≤◌, ◌++◌, ◌∷◌, [], ℕ, List, length, take, drop, None, IfOk, OnOk, OnErr, IfErr, IfSome};
+ghost use Rattle.std.specs.Prelude.{◌≡◌, ◌+◌, ◌<◌, ◌≤◌, ◌++◌, ◌∷◌, [], ℕ, List, length, take, drop, None, IfOk, OnOk, OnErr, IfErr, IfSome, vec_len, vec_capacity};
 ghost use Rattle.std.specs.VecDeque.{deque_len};
 ghost use Rattle.dia_item.specs.Sizes.{longest_row};
 ghost use Rattle.block_pool.specs.Handles.{Follows, PoolName, RefusesFrame, SameTally};
-ghost use Rattle.dia_file.specs.Frames.{frame_bytes, frames, IsFilled, IsFrameIn, sealed_of, Spread, IsPut, IsTorn, AreBlocksOf};
+ghost use Rattle.dia_file.specs.Frames.{frame_bytes, frames, IsFilled, IsFrameIn, sealed_of, Spread, IsPut, IsTorn, AreBlocksOf, blocks_of};
 ghost use Rattle.dia_file.specs.Parts.{bytes_of};
 ghost use Rattle.dia_file.specs.Tallies.{Frees, Makes};
 
@@ -242,6 +242,24 @@ fn put_anew<R: Wait, D: Disk>(
     put_over(rt, hand, sealed, frame, parts.head)?;
     put_over(rt, hand, sealed, frame, parts.prefix)?;
     put_over(rt, hand, sealed, frame, parts.rest)
+}
+
+/// The blocks alone, in the room for them.
+pub(crate) fn blocks_in(sealed: VecDeque<Sealed>, room: Vec<BlockRef>) -> Vec<BlockRef>
+    requires room { (vec_len room ≡ 0) × (length sealed.items ≤ vec_capacity room) }
+    ensures { result.items ≡ blocks_of sealed.items }
+{
+    let mut sealed = sealed;
+    let mut blocks = room;
+    while let Some(front) = sealed.pop_front() {
+        let Sealed {
+            block,
+            ends: _,
+            len: _,
+        } = front;
+        blocks.push_reserved(block);
+    }
+    blocks
 }
 
 /// Frees blocks.

@@ -5,9 +5,10 @@ use Rattle.std.proofs.lemmas.List.{get_or-set_same, get_or-set_other, length-set
 use Rattle.block_pool.specs.Handles.{PoolName, BlockValue, FrameValue}
 use Rattle.dia_file.specs.Frames.{frame_bytes}
 use Rattle.block_pool.specs.declared.pool.TheConstants.{LEAST_BLOCK}
+use Rattle.multiplexer.specs.Sending.{IsSentFrom}
 use Rattle.dia_item.specs.Sizes.{longest_row}
 use Rattle.exchange.specs.Limits.{most_packets}
-use Rattle.exchange.specs.Dealing.{sent_to, joined, block_of, with_frame, IsOpenIn, IsSentFrom, SentMore, IsDealt}
+use Rattle.exchange.specs.Dealing.{sent_to, joined, block_of, with_frame, IsOpenIn, SentMore, IsDealt}
 
 -- what was put and what is left are the bytes; at most one block more was sent than the bytes fill, and none more while some are left
 pub record PutSoFar (pool : PoolName) (sent : List (List BlockValue)) (to : ℕ) (f : Option FrameValue) (bytes : List ℕ) (now : List (List BlockValue)) (g : Option FrameValue) (rest : List ℕ) : Type 0 where

@@ -4,9 +4,10 @@ use Rattle.std.proofs.lemmas.Bool.{eqb-true}
 use Rattle.std.specs.List.{AllByRecursion}
 use Rattle.row_defs.specs.Rows.{Row}
 use Rattle.block_pool.specs.Handles.{PoolName, BlockValue, FrameValue, HandValue, Follows}
+use Rattle.multiplexer.specs.Sending.{IsSentFrom}
 use Rattle.dia_file.specs.Encoding.{spelled}
 use Rattle.dia_file.specs.Frames.{frame_bytes}
-use Rattle.exchange.specs.Dealing.{sent_to, joined, bytes_to, open_frames, AreOpenIn, IsSentFrom, SentMore, IsDealt}
+use Rattle.exchange.specs.Dealing.{sent_to, joined, bytes_to, open_frames, AreOpenIn, SentMore, IsDealt}
 use Rattle.exchange.specs.Deals.{Dealt}
 use Rattle.exchange.specs.Limits.{most_dealt, most_packets}
 use Rattle.row_defs.specs.declared.kind.Kind.{Kind}

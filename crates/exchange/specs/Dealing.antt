@@ -5,7 +5,7 @@ use Rattle.std.specs.List.{flat_map, AllByRecursion, sum_by}
 use Rattle.pool_core.specs.declared.refusals.FrameErr.{FrameErr}
 use Rattle.pool_core.specs.declared.refusals.FrameErr.TheVariants as frame
 use Rattle.block_pool.specs.Handles.{PoolName, Notes, BlockValue, FrameValue, HasHit}
-use Rattle.multiplexer.specs.Sending.{with_sent}
+use Rattle.multiplexer.specs.Sending.{with_sent, IsSentFrom}
 use Rattle.multiplexer.specs.declared.post.Post.{Ghosts}
 use Rattle.dia_file.specs.Frames.{frame_bytes, frames}
 use Rattle.exchange.specs.Limits.{most_packets}
@@ -38,10 +38,6 @@ AreOpenIn pool fs = AllByRecursion (IsOpenIn pool) fs
 -- how many frames are written
 abbrev pub open_frames : List (Option FrameValue) → ℕ
 open_frames fs = sum_by frames fs
-
--- a block that isn't empty, of this pool
-abbrev pub IsSentFrom : PoolName → BlockValue → Type 0
-IsSentFrom pool b = (b.pool ≡ pool) × (0 < length b.bytes)
 
 -- the bytes on their way to a worker: in blocks that were sent, and in the frame that is written
 abbrev pub bytes_to : List (List BlockValue) → List (Option FrameValue) → ℕ → List ℕ

@@ -7,7 +7,7 @@ use Rattle.std.proofs.lemmas.List.Elements.{All-nil, All-cons, All-head, All-tai
 use Rattle.std.proofs.lemmas.Option.{slice_get-get_or}
 use Rattle.block_pool.specs.Handles.{PoolName, BlockValue, HandValue, AreOfPool, Follows}
 use Rattle.multiplexer.specs.Mixes.{IsMix, of_sender, numbered}
-use Rattle.multiplexer.specs.Sending.{SendValue}
+use Rattle.multiplexer.specs.Sending.{SendValue, IsSentFrom}
 use Rattle.multiplexer.specs.Receiving.{RecvValue}
 use Rattle.multiplexer.specs.Settling.{AreSettled, sent_to}
 use Rattle.multiplexer.specs.declared.inbox.Inbox.{Inbox}
@@ -15,7 +15,7 @@ use Rattle.multiplexer.specs.declared.packet.Packet.{Packet}
 use Rattle.scatter.specs.Nets.{AreOfOnePool}
 use Rattle.scatter.specs.Phases.{AllThree}
 use Rattle.scatter.proofs.Threes.{three_long}
-use Rattle.scatter.specs.Carrying.{IsSentFrom, IsFromHand, AreFromHands, AreForHand, IsCarried, IsFrontOf, IsJoined, SendsOwn, AreMixes, AreMixesOnBytes, numbers_in, bytes_in}
+use Rattle.scatter.specs.Carrying.{IsFromHand, AreFromHands, AreForHand, IsCarried, IsFrontOf, IsJoined, SendsOwn, AreMixes, AreMixesOnBytes, numbers_in, bytes_in}
 
 -- Over one pool ------------------------------------------------------------------------------------------------
 

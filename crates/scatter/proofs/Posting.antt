@@ -6,14 +6,14 @@ use Rattle.std.specs.declared.alloc.Global.{Global}
 use Rattle.std.proofs.lemmas.List.Elements.{All-nil, All-cons, All-head, All-tail, All-append}
 use Rattle.crossbeam_queue.specs.SegTies.{SegId}
 use Rattle.block_pool.specs.Handles.{PoolName, BlockValue, HandValue, Follows}
-use Rattle.multiplexer.specs.Sending.{SendValue, with_sent}
+use Rattle.multiplexer.specs.Sending.{SendValue, with_sent, IsSentFrom}
 use Rattle.multiplexer.specs.Receiving.{RecvValue}
 use Rattle.multiplexer.specs.Mails.{AreNewSends, AreNewRecvs}
 use Rattle.multiplexer.specs.Settling.{AreAllEnds}
 use Rattle.multiplexer.specs.declared.packet.Packet.{Packet}
 use Rattle.multiplexer.specs.declared.inbox.Inbox.{Inbox}
 use Rattle.scatter.specs.Nets.{AreOfOnePool}
-use Rattle.scatter.specs.Carrying.{IsSentFrom, SendsOwn, AreForHand, AreBlocksOf}
+use Rattle.scatter.specs.Carrying.{SendsOwn, AreForHand, AreBlocksOf}
 use Rattle.scatter.specs.Posted.{IsSender, IsReceiver, AreTwoEnds, AreTwoHands, IsPosted}
 
 at_end : {A : Type 0} (xs : List A) (x y : A) → slice_get (xs ++ x ∷ y ∷ []) (length xs) ≡ Some x

@@ -4,7 +4,7 @@ use Rattle.std.specs.declared.alloc.Global.{Global}
 use Rattle.dia_edge.specs.Counts.{TellsCount}
 use Rattle.block_pool.specs.Handles.{PoolName, BlockValue, HandValue, AreOfPool}
 use Rattle.multiplexer.specs.Mixes.{IsMix, of_sender, numbered}
-use Rattle.multiplexer.specs.Sending.{SendValue}
+use Rattle.multiplexer.specs.Sending.{SendValue, IsSentFrom}
 use Rattle.multiplexer.specs.Receiving.{RecvValue}
 use Rattle.multiplexer.specs.Settling.{sent_to}
 use Rattle.multiplexer.specs.declared.inbox.Inbox.{Inbox}
@@ -12,10 +12,6 @@ use Rattle.multiplexer.specs.declared.packet.Packet.{Packet}
 use Rattle.scatter.specs.declared.net_err.NetErr.{NetErr}
 use Rattle.scatter.specs.declared.net_err.NetErr.TheVariants.{Link, LinkBytes, Disk, Damaged, NoMemory}
 use Rattle.scatter.specs.Told.{Tells, SomeHit}
-
--- a block that isn't empty, of this pool
-abbrev pub IsSentFrom : PoolName → BlockValue → Type 0
-IsSentFrom pool b = (b.pool ≡ pool) × (0 < length b.bytes)
 
 -- the packet's block isn't empty, and is of the pool of its sender's hand
 pub record IsFromHand (hands : List HandValue) (p : Packet) : Type 0 where

@@ -3,10 +3,9 @@ use Rattle.std.specs.Prelude.{◌≡◌, ℕ, ◌≤◌, List, [], All, length, 
 use Rattle.std.specs.declared.alloc.Global.{Global}
 use Rattle.crossbeam_queue.specs.SegTies.{SegId}
 use Rattle.block_pool.specs.Handles.{PoolName, HandValue}
-use Rattle.multiplexer.specs.Sending.{SendValue}
+use Rattle.multiplexer.specs.Sending.{SendValue, IsSentFrom}
 use Rattle.multiplexer.specs.Receiving.{RecvValue}
 use Rattle.multiplexer.specs.declared.packet.Packet.{Packet}
-use Rattle.scatter.specs.Carrying.{IsSentFrom}
 
 -- an end to send through, of this mail and rank: at most so many blocks went to each worker, each of this pool and not empty
 pub record IsSender (mail : List (SegId Global)) (rank : ℕ) (pool : PoolName) (most : ℕ) (s : SendValue) : Type 0 where
