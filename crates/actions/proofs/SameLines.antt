@@ -6,7 +6,6 @@ use Rattle.std.proofs.lemmas.List.Elements.{All-nil, All-cons, All-head, All-tai
 use Rattle.row_defs.specs.LocalOps.{LocalOp}
 use Rattle.row_defs.specs.Operands.{Root, stored_root, count_root}
 use Rattle.block_pool.specs.Handles.{PoolName, HandValue, Follows}
-use Rattle.block_pool.specs.Follows.{follows_trans}
 use Rattle.scatter.specs.Lines.{Lines, HasRoot, root_kinds, root_rows}
 use Rattle.lop_chain.specs.Ops.{rows_from}
 use Rattle.scatter.specs.Stocks.{AreInPools}
@@ -68,22 +67,6 @@ still_permits [] (b ∷ bs) all permits = absurd all
 still_permits (a ∷ hs) [] all permits = absurd all
 still_permits (a ∷ hs) (b ∷ bs) all permits =
     All-cons HasPermit b bs (rw all.0 (All-head HasPermit a hs permits)) (still_permits hs bs all.1 (All-tail HasPermit a hs permits))
-
-pub permits_trans : (hs bs cs : List HandValue) → AllZip SamePermits hs bs → AllZip SamePermits bs cs → AllZip SamePermits hs cs
-permits_trans [] [] [] p q = tt
-permits_trans (a ∷ hs) (b ∷ bs) (c ∷ cs) p q = (q.0 ∙ p.0, permits_trans hs bs cs p.1 q.1)
-permits_trans [] (b ∷ bs) cs p q = absurd p
-permits_trans (a ∷ hs) [] cs p q = absurd p
-permits_trans [] [] (c ∷ cs) p q = absurd q
-permits_trans (a ∷ hs) (b ∷ bs) [] p q = absurd q
-
-pub follow_trans : (hs bs cs : List HandValue) → AllZip Follows hs bs → AllZip Follows bs cs → AllZip Follows hs cs
-follow_trans [] [] [] p q = tt
-follow_trans (a ∷ hs) (b ∷ bs) (c ∷ cs) p q = (follows_trans a b c p.0 q.0, follow_trans hs bs cs p.1 q.1)
-follow_trans [] (b ∷ bs) cs p q = absurd p
-follow_trans (a ∷ hs) [] cs p q = absurd p
-follow_trans [] [] (c ∷ cs) p q = absurd q
-follow_trans (a ∷ hs) (b ∷ bs) [] p q = absurd q
 
 pub all_tell : (hs bs : List HandValue) → AllZip Follows hs bs → All Tells hs → All Tells bs
 all_tell [] [] all tells = All-nil Tells

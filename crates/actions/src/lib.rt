@@ -8,8 +8,6 @@ mod action;
 mod checking;
 mod feeds;
 mod print;
-#[cfg(test)]
-mod tests;
 
 pub use action::act;
 pub use feed_actions::ActErr;

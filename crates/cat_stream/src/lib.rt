@@ -11,6 +11,3 @@ mod by_rank;
 mod cat_reader;
 
 pub use cat_reader::CatReader;
-
-#[cfg(test)]
-mod tests;

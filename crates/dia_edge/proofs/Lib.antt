@@ -3,3 +3,4 @@ pub mod FileLemmas
 pub mod ShelfLemmas
 pub mod SinkLemmas
 pub mod SlotLemmas
+pub mod Results

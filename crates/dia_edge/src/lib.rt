@@ -37,6 +37,3 @@ pub use refusals::{Failed, NoMemory};
 pub use shelf::Shelf;
 pub use sink::Sink;
 pub use std_sink::StdSink;
-
-#[cfg(test)]
-mod tests;

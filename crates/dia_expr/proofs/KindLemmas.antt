@@ -6,6 +6,7 @@ use Rattle.row_defs.specs.declared.kind.Kind.{Kind}
 use Rattle.row_defs.specs.declared.kind.Kind.TheVariants.{Int, Text}
 use Rattle.row_defs.specs.Values.{Expr, column, number, literal, math, is_zero, compare, choose, len, num, spelled, part, expr_kind, is_int, is_text, are_alike, kind_where, lacks_column}
 use Rattle.dia_expr.specs.Typing.{HasKind, is_numeric}
+use Rattle.dia_item.proofs.TestLemmas.{and_split}
 
 pub HasKind-unique : (kinds : List Kind) (e : Expr) (k l : Kind) → HasKind kinds e k → HasKind kinds e l → k ≡ l
 HasKind-unique kinds (column i) k l p q = cc
@@ -24,12 +25,12 @@ HasKind-unique kinds (part op a t) k l p q = p.0 ∙ sym q.0
 pub same_kind : (kinds : List Kind) (x e : Expr) (k l : Kind) → HasKind kinds x k → HasKind kinds x l → HasKind kinds e k → HasKind kinds e l
 same_kind kinds x e k l p q h = let P : Kind → Type 0 = λ m. HasKind kinds e m in subst P (HasKind-unique kinds x k l p q) h
 
-int_from : (k : Option Kind) → is_int k ≡ true → k ≡ Some Int
+pub int_from : (k : Option Kind) → is_int k ≡ true → k ≡ Some Int
 int_from None is = absurd cc
 int_from (Some Int) is = refl
 int_from (Some Text) is = absurd cc
 
-text_from : (k : Option Kind) → is_text k ≡ true → k ≡ Some Text
+pub text_from : (k : Option Kind) → is_text k ≡ true → k ≡ Some Text
 text_from None is = absurd cc
 text_from (Some Int) is = absurd cc
 text_from (Some Text) is = refl
@@ -37,10 +38,6 @@ text_from (Some Text) is = refl
 where_from : (b : Bool) (k : Option Kind) (l : Kind) → kind_where b k ≡ Some l → (b ≡ true) × (k ≡ Some l)
 where_from true k l is = (refl, is)
 where_from false k l is = absurd cc
-
-pub both_from : (a b : Bool) → (a && b) ≡ true → (a ≡ true) × (b ≡ true)
-both_from true b is = (refl, is)
-both_from false b is = absurd cc
 
 alike_from : (x y : Option Kind) → are_alike x y ≡ true → (k : Kind) × (x ≡ Some k) × (y ≡ Some k)
 alike_from None None is = absurd cc
@@ -59,7 +56,7 @@ HasKind-from kinds (number n) k is = cc
 HasKind-from kinds (literal t) k is = cc
 HasKind-from kinds (math op a b) k is =
     let w = where_from (is_int (expr_kind kinds a) && is_int (expr_kind kinds b)) (Some Int) k is in
-    let p = both_from (is_int (expr_kind kinds a)) (is_int (expr_kind kinds b)) w.0 in
+    let p = and_split (is_int (expr_kind kinds a)) (is_int (expr_kind kinds b)) w.0 in
     (cc (w.1), HasKind-from kinds a Int (int_from (expr_kind kinds a) p.0), HasKind-from kinds b Int (int_from (expr_kind kinds b) p.1))
 HasKind-from kinds (is_zero a) k is =
     let w = where_from (is_int (expr_kind kinds a)) (Some Int) k is in
@@ -70,7 +67,7 @@ HasKind-from kinds (compare op x y) k is =
     (cc (w.1), (p.0, HasKind-from kinds x p.0 p.1, HasKind-from kinds y p.0 p.2))
 HasKind-from kinds (choose c x y) k is =
     let w = where_from (is_int (expr_kind kinds c) && are_alike (expr_kind kinds x) (expr_kind kinds y)) (expr_kind kinds x) k is in
-    let p = both_from (is_int (expr_kind kinds c)) (are_alike (expr_kind kinds x) (expr_kind kinds y)) w.0 in
+    let p = and_split (is_int (expr_kind kinds c)) (are_alike (expr_kind kinds x) (expr_kind kinds y)) w.0 in
     let q = alike_from (expr_kind kinds x) (expr_kind kinds y) p.1 in
     let same : expr_kind kinds y ≡ Some k = q.2 ∙ sym q.1 ∙ w.1 in
     (HasKind-from kinds c Int (int_from (expr_kind kinds c) p.0), HasKind-from kinds x k w.1, HasKind-from kinds y k same)
@@ -85,7 +82,7 @@ HasKind-from kinds (spelled a) k is =
     (cc (w.1), HasKind-from kinds a Int (int_from (expr_kind kinds a) w.0))
 HasKind-from kinds (part op a t) k is =
     let w = where_from (is_int (expr_kind kinds a) && is_text (expr_kind kinds t)) (Some Text) k is in
-    let p = both_from (is_int (expr_kind kinds a)) (is_text (expr_kind kinds t)) w.0 in
+    let p = and_split (is_int (expr_kind kinds a)) (is_text (expr_kind kinds t)) w.0 in
     (cc (w.1), HasKind-from kinds a Int (int_from (expr_kind kinds a) p.0), HasKind-from kinds t Text (text_from (expr_kind kinds t) p.1))
 
 pub HasKind-some : (kinds : List Kind) (e : Expr) → IsSome (expr_kind kinds e) → (k : Kind) × HasKind kinds e k

@@ -11,9 +11,9 @@ use Rattle.row_defs.specs.Texts.{is_decimal, number_after, number_of_digits, is_
 use Rattle.row_defs.specs.Values.{Math, plus, minus, times, quotient, remainder, smaller, larger, bits_and, bits_or, bits_xor, Comparison, equal, less, at_most, Part, prefix, suffix, nth_word, Expr, column, number, literal, math, is_zero, compare, choose, len, num, spelled, part}
 use Rattle.row_defs.specs.Expressions.{whole, with_one, with_two, with_three, form_word, leaf_word, literal_rest, column_word, beginning_of, begins_none, is_bad_number, exprs_of, list_fault, one_fault, math_name, comparison_name, part_name, expr_words, HasWords}
 use Rattle.dia_expr.specs.Reads.{IsRead}
-use Rattle.dia_expr.proofs.KindLemmas.{both_from}
 use Rattle.dia_expr.proofs.ReadLemmas.{read_whole, read_one, read_two, read_three, read_pair, read_form}
 use Rattle.dia_expr.proofs.FaultLemmas.{list_fault-numbers, one_fault-numbers, number_fault-none}
+use Rattle.dia_item.proofs.TestLemmas.{and_split}
 
 -- read, and no number is bad
 record IsWritten (words : List (List ℕ)) (e : Expr) (rest : List (List ℕ)) : Type 0 where
@@ -127,9 +127,9 @@ first_decimal_digit : (b : ℕ) (bytes : List ℕ) → is_number (b ∷ bytes) �
 first_decimal_digit b bytes is =
     let digits = list_all is_decimal (b ∷ bytes) in
     let few = nat_le 1 (length (b ∷ bytes)) && nat_le (length (b ∷ bytes)) 20 in
-    let p = both_from (few && digits) (nat_lt (number_of_digits (b ∷ bytes)) (2 ^ 64)) is in
-    let q = both_from few digits p.0 in
-    (both_from (is_decimal b) (list_all is_decimal bytes) q.1).0
+    let p = and_split (few && digits) (nat_lt (number_of_digits (b ∷ bytes)) (2 ^ 64)) is in
+    let q = and_split few digits p.0 in
+    (and_split (is_decimal b) (list_all is_decimal bytes) q.1).0
 
 value_of_digits : (t : List ℕ) (n : ℕ) → is_number t ≡ true → number_of_digits t ≡ n → number_or_0 t ≡ n
 value_of_digits t n is value = ap (λ o. unwrap_or o 0) (pick_first (is_number t) (Some (number_of_digits t)) None is) ∙ value
@@ -138,7 +138,7 @@ number_begins : (t : List ℕ) (n : ℕ) → is_number t ≡ true → number_of_
 number_begins [] n is value = absurd cc
 number_begins (b ∷ bytes) n is value =
     let digit : is_decimal b ≡ true = first_decimal_digit b bytes is in
-    let low : 48 ≤ b = leb-true 48 b (both_from (nat_le 48 b) (nat_le b 57) digit).0 in
+    let low : 48 ≤ b = leb-true 48 b (and_split (nat_le 48 b) (nat_le b 57) digit).0 in
     let other : (b == 39) ≡ false = ne_eqb b 39 (λ e. omega (arith, e, low)) in
     leaf_begins (b ∷ bytes) (number n)
     (pick (b == 39) (is_decimal b) (literal_rest bytes) (Some (number (number_or_0 (b ∷ bytes)))) (column_word (b ∷ bytes)) other digit

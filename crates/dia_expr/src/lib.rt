@@ -29,6 +29,3 @@ pub use kinds::{KindErr, is_numeric, kind_of};
 pub use laws::{an_expression_is_read_again, expressions_are_read_again, values_have_their_kinds};
 pub use read::{ExprErr, read_exprs, read_one, read_words};
 pub use texts::{number_spelled, split_word};
-
-#[cfg(test)]
-mod tests;

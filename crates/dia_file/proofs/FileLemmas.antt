@@ -2,8 +2,7 @@
 use Rattle.std.proofs.Common.{◌≡◌, ℕ, zero, suc, List, [], ◌∷◌, ◌++◌, refl, sym, ap, subst, ◌∙◌, append_assoc, append-nil, arith}
 use Rattle.row_defs.specs.declared.kind.Kind.{Kind}
 use Rattle.std.specs.List.{AllByRecursion}
-use Rattle.row_defs.specs.declared.kind.Kind.TheVariants.{Int, Text}
-use Rattle.row_defs.specs.Rows.{Cell, int, text, Row, Fits, IsField, IsRow}
+use Rattle.row_defs.specs.Rows.{Row, Fits, IsRow}
 use Rattle.block_pool.specs.Handles.{PoolName}
 use Rattle.dia_file.specs.declared.sealed.Sealed.{Sealed}
 use Rattle.dia_file.specs.Encoding.{spelled, encoded, AreOf, AllFit}
@@ -12,6 +11,7 @@ use Rattle.dia_file.specs.Frames.{pieces, blocks_of, AllSealedIn}
 use Rattle.dia_file.specs.Files.{joined_blocks, AreFilled, rows_stored, IsStored}
 use Rattle.dia_file.proofs.RowBytes.{encoded-append}
 use Rattle.dia_file.proofs.PieceLemmas.{in_rows}
+use Rattle.dia_item.proofs.LawLemmas.{field_fits}
 
 pub stored_rows : (kinds : List Kind) (items : List Sealed) (n b : ℕ) (i : IsStored kinds items n b) → rows_stored kinds items ≡ i.rows_are
 unfolding rows_stored
@@ -43,16 +43,9 @@ pub sealed_filled : (pool : PoolName) (items : List Sealed) → AllSealedIn pool
 sealed_filled pool [] h = tt
 sealed_filled pool (x ∷ items) h = (h.0.some, sealed_filled pool items h.1)
 
--- cells, rows and lists of rows that have a spelling fit
-cell_fits : (kind : Kind) (bytes : List ℕ) (cell : Cell) → IsField kind bytes cell → Fits cell
-cell_fits Int bytes (int n) h = h.0
-cell_fits Int bytes (text t) h = absurd h
-cell_fits Text bytes (int n) h = absurd h
-cell_fits Text bytes (text t) h = h.0
-
 row_fits : (kinds : List Kind) (bytes : List ℕ) (row : Row) → IsRow kinds bytes row → AllByRecursion Fits row
 row_fits [] bytes row h = rw h.1 tt
-row_fits (kind ∷ kinds) bytes row h = rw h.6 (cell_fits kind h.2 h.0 h.4, row_fits kinds h.3 h.1 h.5)
+row_fits (kind ∷ kinds) bytes row h = rw h.6 (field_fits kind h.2 h.0 h.4, row_fits kinds h.3 h.1 h.5)
 
 rows_fit : (kinds : List Kind) (rows : List Row) → AreOf kinds rows → AllFit rows
 rows_fit kinds [] h = tt

@@ -29,6 +29,3 @@ pub use file::File;
 pub use keep::KeepReader;
 pub use refusals::PushErr;
 pub use writer::FileWriter;
-
-#[cfg(test)]
-mod tests;

@@ -36,7 +36,7 @@ row_bytes_are (kind ∷ kinds) bytes row h =
     let rest : h.3 ≡ row_bytes h.1 = row_bytes_are kinds h.3 h.1 h.5 in
     rw h.6 (h.7 ∙ ap (λ (xs : List ℕ). xs ++ h.3) first ∙ ap (λ (xs : List ℕ). cell_bytes h.0 ++ xs) rest)
 
-field_fits : (kind : Kind) (bytes : List ℕ) (cell : Cell) → IsField kind bytes cell → Fits cell
+pub field_fits : (kind : Kind) (bytes : List ℕ) (cell : Cell) → IsField kind bytes cell → Fits cell
 field_fits Int bytes (int n) f = f.0
 field_fits Int bytes (text t) f = absurd f
 field_fits Text bytes (int n) f = absurd f

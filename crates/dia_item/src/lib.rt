@@ -30,6 +30,3 @@ pub use reading::{known_row, read_row};
 pub use row_buf::{LONGEST_ROW, RowBuf};
 pub use row_defs::Kind;
 pub use row_ref::RowRef;
-
-#[cfg(test)]
-mod tests;

@@ -20,7 +20,7 @@ use Rattle.dia_lines.specs.Taking.{is_text, AreTaken, HasTaken, IsLong, IsTurned
 use Rattle.dia_lines.specs.Inputs.{AskedSome, Asks, IsReading, IsInputReason, IsTakersOwn, TookInput, reason_of}
 use Rattle.dia_lines.proofs.TakeLemmas.{list_all-push}
 
-take-append-past : (n : ℕ) (xs ys : List ℕ) → length xs ≤ n → take n (xs ++ ys) ≡ xs ++ take (n - length xs) ys
+pub take-append-past : (n : ℕ) (xs ys : List ℕ) → length xs ≤ n → take n (xs ++ ys) ≡ xs ++ take (n - length xs) ys
 take-append-past n xs ys low =
     let parts : n ≡ length xs + (n - length xs) = omega arith in
     ap (λ (m : ℕ). take m (xs ++ ys)) parts ∙ take-append-add xs ys (n - length xs)

@@ -14,6 +14,3 @@ mod scatter_err;
 
 pub use scatter::Scatter;
 pub use scatter_err::ScatterErr;
-
-#[cfg(test)]
-mod tests;

@@ -1,5 +1,4 @@
 pub mod TurnCounts
 pub mod Counts
 pub mod TurnSums
-pub mod Worked
 pub mod Fitting

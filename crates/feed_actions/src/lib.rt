@@ -17,6 +17,3 @@ pub use counter::{Counter, TooManyRows};
 pub use counting::{few, rows_arriving};
 pub use known::known_extent;
 pub use summer::Summer;
-
-#[cfg(test)]
-mod tests;

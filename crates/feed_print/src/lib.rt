@@ -9,6 +9,3 @@ mod printing;
 mod pushing;
 
 pub use printing::print_feed;
-
-#[cfg(test)]
-mod tests;

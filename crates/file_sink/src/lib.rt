@@ -7,6 +7,3 @@
 mod file_sink;
 
 pub use crate::file_sink::FileSink;
-
-#[cfg(test)]
-mod tests;

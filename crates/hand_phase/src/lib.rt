@@ -9,6 +9,3 @@ mod phase;
 
 pub use hand_task::{AnyHand, HandTask};
 pub use phase::run_hands;
-
-#[cfg(test)]
-mod tests;

@@ -12,6 +12,3 @@ mod refusals;
 
 pub use reading::read_file;
 pub use refusals::ReadFileErr;
-
-#[cfg(test)]
-mod tests;

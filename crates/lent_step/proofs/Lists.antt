@@ -1,5 +1,5 @@
 -- Lists that grow side by side.
-use Rattle.std.proofs.Common.{◌≡◌, ℕ, suc, zero, List, [], ◌∷◌, ◌++◌, length, take, drop, ap, sym, ◌∙◌, arith, length-append, append_assoc, Result, Ok, Err, OnOk, IfErr}
+use Rattle.std.proofs.Common.{◌≡◌, ℕ, suc, zero, List, [], ◌∷◌, ◌++◌, length, take, drop, ap, sym, ◌∙◌, arith, length-append, append_assoc}
 use Rattle.std.specs.List.{AllZip}
 use Rattle.lent_step.specs.Lending.{AreHeld}
 use Rattle.lent_step.specs.declared.held.Held.{Held}
@@ -38,11 +38,3 @@ one_longer xs x = omega (arith, length-append xs (x ∷ []))
 -- one more item of those that an iterator gives
 pub yield_more : {A : Type 0} (seen before after all : List A) (x : A) → before ≡ x ∷ after → seen ++ before ≡ all → (seen ++ x ∷ []) ++ after ≡ all
 yield_more seen before after all x is parts = append_assoc seen (x ∷ []) after ∙ ap (λ r. seen ++ r) (sym is) ∙ parts
-
-pub on_err : {A E : Type 0} (P Q : E → Type 0) (r : Result A E) → ((e : E) → P e → Q e) → IfErr r P → IfErr r Q
-on_err P Q (Ok a) f h = tt
-on_err P Q (Err e) f h = f e h
-
-pub on_ok : {A E : Type 0} (P Q : Type 0) (r : Result A E) → (P → Q) → OnOk r P → OnOk r Q
-on_ok P Q (Ok a) f h = f h
-on_ok P Q (Err e) f h = tt

@@ -28,6 +28,3 @@ pub use operand::{Operand, Root};
 pub use script_op::{ScriptOp, copy_exprs, copy_ops};
 pub use sink::RowSink;
 pub use then::Then;
-
-#[cfg(test)]
-mod tests;

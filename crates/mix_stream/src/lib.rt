@@ -17,6 +17,3 @@ mod stream;
 
 pub use laws::{rows_are_not_damage, rows_come_by_rank, rows_come_in_order};
 pub use mix_reader::MixReader;
-
-#[cfg(test)]
-mod tests;

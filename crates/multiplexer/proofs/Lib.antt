@@ -1,6 +1,5 @@
 mod Deliveries
-mod Lists
+pub mod Lists
 mod Gathers
 mod Sendings
 mod Openings
-mod Ends

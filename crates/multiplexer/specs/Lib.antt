@@ -6,4 +6,3 @@ pub mod Sending
 pub mod Receiving
 pub mod Settling
 pub mod Mails
-pub mod Workers

@@ -23,6 +23,3 @@ pub use packet::Packet;
 pub use post::{Post, SendEnd};
 pub use recv_end::RecvEnd;
 pub use settling::settle;
-
-#[cfg(test)]
-mod tests;

@@ -1,3 +1,2 @@
 pub mod Lists
 pub mod Placed
-pub mod Worked

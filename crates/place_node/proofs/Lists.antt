@@ -1,12 +1,11 @@
 -- Sinks, hands and files side by side.
-use Rattle.std.proofs.Common.{◌≡◌, ℕ, ◌+◌, ◌<◌, ◌≤◌, List, [], ◌∷◌, ◌++◌, suc, length, take, map, get_or, Option, Some, None, refl, sym, ap, ◌∙◌, arith}
-use Rattle.std.specs.Prelude.{All, IsSome, Result, Ok, Err, IfOk, OnOk, IfErr}
+use Rattle.std.proofs.Common.{◌≡◌, ℕ, ◌+◌, ◌<◌, ◌≤◌, List, [], ◌∷◌, ◌++◌, length, take, map, get_or, Option, Some, None, refl, sym, ap, ◌∙◌, arith}
+use Rattle.std.specs.Prelude.{All, IsSome}
 use Rattle.std.specs.List.{AllZip, sum_by}
 use Rattle.std.proofs.lemmas.List.{take_more}
 use Rattle.std.proofs.lemmas.List.Sums.{sum_by-cons, sum_by_more_le}
-use Rattle.std.proofs.lemmas.List.Elements.{All-head, All-tail}
+use Rattle.std.proofs.lemmas.List.Elements.{All-nil, All-cons, All-head, All-tail}
 use Rattle.block_pool.specs.Handles.{HandValue, Follows}
-use Rattle.block_pool.specs.Follows.{follows_trans}
 use Rattle.dia_file.specs.Files.{FileValue}
 use Rattle.lent_step.proofs.Lists.{zip_more}
 use Rattle.file_sink.specs.Sinks.{SinkValue, KeepsFile, keeps_none}
@@ -19,14 +18,6 @@ pub back_follows : (ss : List SinkValue) (hs bs : List HandValue) → AllThree I
 back_follows [] [] [] h = tt
 back_follows (s ∷ ss) (a ∷ hs) (b ∷ bs) h = (h.0.0, back_follows ss hs bs h.1)
 back_follows _ _ _ h = absurd h
-
-pub follows_more : (hs bs cs : List HandValue) → AllZip Follows hs bs → AllZip Follows bs cs → AllZip Follows hs cs
-follows_more [] [] [] p q = tt
-follows_more (a ∷ hs) (b ∷ bs) (c ∷ cs) p q = (follows_trans a b c p.0 q.0, follows_more hs bs cs p.1 q.1)
-follows_more [] [] (c ∷ cs) p q = absurd q
-follows_more [] (b ∷ bs) cs p q = absurd p
-follows_more (a ∷ hs) [] cs p q = absurd p
-follows_more (a ∷ hs) (b ∷ bs) [] p q = absurd q
 
 part_in : (s : SinkValue) (b : HandValue) (part : Option FileValue) → IsPartFrom s b part → IsPartIn b part
 part_in s b None h = tt
@@ -96,19 +87,6 @@ zip_next R xs ys i x y below is h r =
     let one : take (i + 1) ys ≡ take i ys ++ y ∷ [] = take_more ys i y below ∙ ap (λ z. take i ys ++ z ∷ []) (sym is) in
     rw one (zip_more R xs (take i ys) x y h r)
 
--- what follows where a call answered a value
-pub if_ok : {T E : Type 0} (r : Result T E) (P Q : T → Type 0) → ((x : T) → P x → Q x) → IfOk r P → IfOk r Q
-if_ok (Ok x) P Q f p = f x p
-if_ok (Err e) P Q f p = tt
-
-pub both_ok : {T E : Type 0} (r : Result T E) (P Q : T → Type 0) (B : Type 0) → ((x : T) → P x → B → Q x) → IfOk r P → OnOk r B → IfOk r Q
-both_ok (Ok x) P Q B f p b = f x p b
-both_ok (Err e) P Q B f p b = tt
-
-pub on_ok : {T E : Type 0} (r : Result T E) (B C : Type 0) → (B → C) → OnOk r B → OnOk r C
-on_ok (Ok x) B C f b = f b
-on_ok (Err e) B C f b = tt
-
-pub if_err : {T E : Type 0} (r : Result T E) (P Q : E → Type 0) → ((e : E) → P e → Q e) → IfErr r P → IfErr r Q
-if_err (Ok x) P Q f p = tt
-if_err (Err e) P Q f p = f e p
+pub all_some : (files : List FileValue) → All IsSome (map (λ (f : FileValue). Some f) files)
+all_some [] = All-nil IsSome
+all_some (f ∷ files) = All-cons IsSome (Some f) (map (λ (f : FileValue). Some f) files) refl (all_some files)

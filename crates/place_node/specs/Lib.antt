@@ -1,4 +1,3 @@
 pub mod Placing
 pub mod Ending
 pub mod Rooms
-pub mod Worked

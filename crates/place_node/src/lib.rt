@@ -13,6 +13,3 @@ mod node_err;
 
 pub use node::{PlaceFn, PlaceNode};
 pub use node_err::NodeErr;
-
-#[cfg(test)]
-mod tests;

@@ -1,4 +1,3 @@
-pub mod Results
 pub mod Changes
 pub mod Counting
 pub mod Rooted
@@ -9,4 +8,3 @@ pub mod Turns
 pub mod Arriving
 pub mod Hands
 pub mod Mailing
-pub mod Posting

@@ -1,5 +1,5 @@
 -- Feeds that are made one after the other.
-use Rattle.std.proofs.Common.{◌≡◌, ℕ, zero, suc, ◌+◌, ◌<◌, Bool, List, [], ◌∷◌, ◌++◌, map, length, drop, Option, None, Some, refl, sym, ap, ◌∙◌, subst, arith, length-append, append_assoc, append-nil}
+use Rattle.std.proofs.Common.{◌≡◌, ℕ, suc, ◌+◌, ◌<◌, Bool, List, [], ◌∷◌, ◌++◌, map, length, drop, Option, None, Some, refl, sym, ap, ◌∙◌, subst, arith, length-append, append-nil}
 use Rattle.std.specs.Prelude.{All}
 use Rattle.std.proofs.lemmas.List.{map-append}
 use Rattle.std.proofs.lemmas.List.Elements.{All-head, All-tail, All-drop}
@@ -13,21 +13,8 @@ use Rattle.scatter.specs.Lines.{AreChainsOf}
 use Rattle.scatter.proofs.Counting.{share_is}
 use Rattle.scatter.proofs.Rooted.{present}
 
--- one more item of those that an iterator gives
-pub yield_more : {A : Type 0} (seen before after all : List A) (x : A) → before ≡ x ∷ after → seen ++ before ≡ all → (seen ++ x ∷ []) ++ after ≡ all
-yield_more seen before after all x is parts = append_assoc seen (x ∷ []) after ∙ ap (λ r. seen ++ r) (sym is) ∙ parts
-
 pub yielded_all : {A : Type 0} (seen rest all : List A) → rest ≡ [] → seen ++ rest ≡ all → seen ≡ all
 yielded_all seen rest all none parts = sym (append-nil seen) ∙ ap (λ r. seen ++ r) (sym none) ∙ parts
-
-pub one_longer : {A : Type 0} (xs : List A) (x : A) → length (xs ++ x ∷ []) ≡ suc (length xs)
-one_longer xs x = omega (arith, length-append xs (x ∷ []))
-
-pub drop_more : {A : Type 0} (n : ℕ) (xs : List A) (x : A) (rest : List A) → drop n xs ≡ x ∷ rest → rest ≡ drop (suc n) xs
-drop_more zero [] x rest is = cc
-drop_more zero (y ∷ xs) x rest is = cc
-drop_more (suc n) [] x rest is = cc
-drop_more (suc n) (y ∷ xs) x rest is = drop_more n xs x rest is
 
 -- fewer were given than there are, where one more comes
 pub not_all : {A : Type 0} (seen before after all : List A) (x : A) → before ≡ x ∷ after → seen ++ before ≡ all → length seen < length all

@@ -1,5 +1,5 @@
 -- Lists that grow side by side.
-use Rattle.std.proofs.Common.{◌≡◌, ℕ, zero, suc, List, [], ◌∷◌, ◌++◌, length, take, drop, map, refl, ap, sym, ◌∙◌}
+use Rattle.std.proofs.Common.{◌≡◌, suc, List, [], ◌∷◌, ◌++◌, length, map, refl, ap, sym, ◌∙◌}
 use Rattle.std.proofs.lemmas.List.{map-append}
 use Rattle.std.specs.List.{AllZip}
 use Rattle.lent_step.specs.Lending.{AllRan}
@@ -10,13 +10,6 @@ pub three_more : {A B C : Type 0} (R : A → B → C → Type 0) (xs : List A) (
 three_more R [] [] [] x y z h r = (r, tt)
 three_more R (a ∷ xs) (b ∷ ys) (c ∷ zs) x y z h r = (h.0, three_more R xs ys zs x y z h.1 r)
 three_more R _ _ _ x y z h r = absurd h
-
--- the next element of those that are left
-pub take_next : {A : Type 0} (n : ℕ) (xs : List A) (x : A) (rest : List A) → drop n xs ≡ x ∷ rest → take (suc n) xs ≡ take n xs ++ x ∷ []
-take_next zero [] x rest is = cc
-take_next zero (y ∷ xs) x rest is = let e : y ≡ x = cc in ap (λ z. z ∷ []) e
-take_next (suc n) [] x rest is = cc
-take_next (suc n) (y ∷ xs) x rest is = ap (λ zs. y ∷ zs) (take_next n xs x rest is)
 
 pub map_push : {A B : Type 0} (f : A → B) (xs : List A) (x : A) (ys : List B) → ys ≡ map f xs → ys ++ f x ∷ [] ≡ map f (xs ++ x ∷ [])
 map_push f xs x ys is = ap (λ l. l ++ f x ∷ []) is ∙ sym (map-append f xs (x ∷ []))

@@ -7,9 +7,7 @@ pub mod SendLaws
 pub mod Phases
 pub mod Lines
 pub mod Stocks
-pub mod Worked
 pub mod Begun
 pub mod Told
 pub mod Clearing
 pub mod Carrying
-pub mod Posted

@@ -31,6 +31,3 @@ pub use net_err::NetErr;
 pub use phase::{Phase, give_back};
 pub use sending::Sending;
 pub use stock::Stock;
-
-#[cfg(test)]
-mod tests;

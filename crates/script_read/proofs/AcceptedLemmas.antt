@@ -7,7 +7,7 @@ use Rattle.row_defs.specs.declared.kind.Kind.{Kind}
 use Rattle.row_defs.specs.declared.kind.Kind.TheVariants.{Int, Text}
 use Rattle.row_defs.specs.declared.cause.Cause.TheVariants.{BadForm, UnknownWord, BadNumber}
 use Rattle.row_defs.specs.Texts.{number_spelled, number_or_0}
-use Rattle.row_defs.specs.Values.{Expr, is_int, is_text, expr_kind}
+use Rattle.row_defs.specs.Values.{Expr, expr_kind}
 use Rattle.row_defs.specs.Expressions as spelling
 use Rattle.row_defs.specs.Expressions.{Beginning, beginning_of, whole, with_one, with_two, with_three, onto, exprs_of, begins_none, list_fault, number_fault}
 use Rattle.script_defs.specs.declared.shape.Shape.{Shape}
@@ -16,6 +16,7 @@ use Rattle.script_defs.specs.declared.shape.ColumnPlace.{ColumnPlace}
 use Rattle.script_defs.specs.Stating.{first_expr}
 use Rattle.script_defs.specs.Reading.{Known, Sentence, Test, first_cause, tests_of, exprs_without, value_in, exprs_fault, is_printable, is_bad_form, is_unknown_word, is_bad_number, has_bad_name, has_bad_bytes, has_bad_words, fits_count, is_outside, is_number_outside, is_kind, is_other_kind, is_one_int}
 use Rattle.script_read.specs.Accepting.{IsAccepted}
+use Rattle.dia_expr.proofs.KindLemmas.{text_from, int_from}
 
 abbrev none_apply : List Test → Type 0
 none_apply [] = Unit {0}
@@ -111,23 +112,13 @@ pub some_exprs : (args : List (List ℕ)) → 2 ≤ length args → is_bad_form 
 some_exprs args two form words numbers =
     by_list (drop 1 args) (list_any begins_none (drop 1 args)) (length-drop_one args two) form words numbers
 
-int_kind : (kind : Option Kind) → is_int kind ≡ true → kind ≡ Some Int
-int_kind None is = absurd (true≢false (sym is))
-int_kind (Some Int) is = refl
-int_kind (Some Text) is = absurd (true≢false (sym is))
-
-text_kind : (kind : Option Kind) → is_text kind ≡ true → kind ≡ Some Text
-text_kind None is = absurd (true≢false (sym is))
-text_kind (Some Int) is = absurd (true≢false (sym is))
-text_kind (Some Text) is = refl
-
 this_kind : (kind : Kind) (of : Option Kind) → is_kind kind of ≡ true → of ≡ Some kind
-this_kind Int of is = int_kind of is
-this_kind Text of is = text_kind of is
+this_kind Int of is = int_from of is
+this_kind Text of is = text_from of is
 
 pub one_int : (kinds : List Kind) (exprs : List Expr) → is_one_int kinds exprs ≡ true → expr_kind kinds (first_expr exprs) ≡ Some Int
 one_int kinds [] is = absurd (true≢false (sym is))
-one_int kinds (e ∷ []) is = int_kind (expr_kind kinds e) is
+one_int kinds (e ∷ []) is = int_from (expr_kind kinds e) is
 one_int kinds (e ∷ x ∷ exprs) is = absurd (true≢false (sym is))
 
 -- numbers and columns ---------------------------------------------------------------------------------------------

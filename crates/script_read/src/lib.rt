@@ -17,8 +17,6 @@ mod reader;
 mod script;
 mod sentence;
 mod statement;
-#[cfg(test)]
-mod tests;
 
 pub use line_kinds::kinds_of_exprs;
 pub use reader::{ReadErr, read_script};

@@ -29,10 +29,11 @@ use Rattle.script_run.specs.Errors.{act_error, TellsStop}
 use Rattle.script_run.specs.Held.{Held, kept_by, IsKept, IsReady, told_by}
 use Rattle.script_run.specs.Steps.{Does, StopsAt}
 use Rattle.script_run.proofs.ToldLemmas.{told_parts, all_tells}
-use Rattle.script_run.proofs.HandLemmas.{SamePermits, same_count, one_still, two_still}
+use Rattle.script_run.proofs.HandLemmas.{SamePermits, one_still, two_still}
 use Rattle.script_run.specs.Weighing.{IsWeighed}
 use Rattle.script_run.proofs.LineLemmas.{keeps_but, used_pools, used_kept}
 use Rattle.script_run.proofs.WeighLemmas.{weighed_still}
+use Rattle.scatter.proofs.Hands.{follow_count}
 
 -- an action of a run that is ready, on its operand
 pub record IsActed (n : ℕ) (action : Action) (o : Operand) (old : Held) : Type 0 where
@@ -59,7 +60,7 @@ pub used_ready : (root : Root) (last : Bool) (old new : Held) → IsUsedUp root 
 used_ready root last old new used ready =
     let Kept : Script → Type 0 = λ s. (k : ℕ) (line : LineValue) → new.lines k ≡ Some line → IsKept s k line in
     record {
-      count = same_count old.hands new.hands used.follows ∙ ready.count ∙ sym used.workers;
+      count = follow_count old.hands new.hands used.follows ∙ ready.count ∙ sym used.workers;
       some = rw used.workers ready.some;
       few = rw used.workers ready.few;
       one = one_still old.hands new.hands used.follows ready.one;

@@ -1,15 +1,13 @@
 -- The hands of workers before and after a stage.
-use Rattle.std.proofs.Common.{◌≡◌, ℕ, suc, ◌<◌, ◌≤◌, List, [], ◌∷◌, length, get_or, refl, sym, ap, ◌∙◌, subst, arith}
+use Rattle.std.proofs.Common.{◌≡◌, ℕ, ◌<◌, ◌≤◌, List, [], ◌∷◌, length, get_or, refl, sym, ap, ◌∙◌, subst, arith}
 use Rattle.std.specs.Prelude.{All}
 use Rattle.std.specs.List.{AllZip}
 use Rattle.std.proofs.Math.ListN.{set}
 use Rattle.std.proofs.lemmas.List.Elements.{All-nil, All-cons, All-head, All-tail, All-weaker}
-use Rattle.dia_edge.specs.Counts.{TellsCount}
 use Rattle.row_defs.specs.Rows.{Row}
 use Rattle.block_pool.specs.Handles.{PoolName, HandValue, HasHit, Follows}
 use Rattle.block_pool.specs.Weighing.{Weighs}
 use Rattle.dia_file.specs.Encoding.{encoded}
-use Rattle.block_pool.specs.Follows.{follows_refl}
 use Rattle.dia_file.specs.Files.{FileValue, IsFileOf}
 use Rattle.input_file.specs.declared.refusals.ReadFileErr.{ReadFileErr}
 use Rattle.input_file.specs.declared.refusals.ReadFileErr.TheVariants as inputs
@@ -25,6 +23,7 @@ use Rattle.script_run.specs.declared.run_err.RunErr.TheVariants as errors
 use Rattle.script_run.specs.Errors.{TellsStop}
 use Rattle.script_run.specs.Reading.{HitsSome}
 use Rattle.script_run.specs.Weighing.{IsWeighed}
+use Rattle.dia_edge.proofs.CountLemmas.{tells_since}
 
 abbrev pub SamePermits : HandValue → HandValue → Type 0
 SamePermits a b = b.permits ≡ a.permits
@@ -46,20 +45,6 @@ first_follows a b rest follows = (follows, follow_refl rest)
 
 pub first_permits : (a b : HandValue) (rest : List HandValue) → b.permits ≡ a.permits → AllZip SamePermits (a ∷ rest) (b ∷ rest)
 first_permits a b rest same = (same, permits_refl rest)
-
-pub permits_then : (a b c : List HandValue) → AllZip SamePermits a b → AllZip SamePermits b c → AllZip SamePermits a c
-permits_then [] [] [] p q = tt
-permits_then (x ∷ xs) (y ∷ ys) (z ∷ zs) p q = (q.0 ∙ p.0, permits_then xs ys zs p.1 q.1)
-permits_then [] (y ∷ ys) zs p q = absurd p
-permits_then (x ∷ xs) [] zs p q = absurd p
-permits_then [] [] (z ∷ zs) p q = absurd q
-permits_then (x ∷ xs) (y ∷ ys) [] p q = absurd q
-
-pub same_count : (hands now : List HandValue) → AllZip Follows hands now → length now ≡ length hands
-same_count [] [] all = refl
-same_count [] (b ∷ now) all = absurd all
-same_count (a ∷ hands) [] all = absurd all
-same_count (a ∷ hands) (b ∷ now) all = ap suc (same_count hands now all.1)
 
 in_pool : (pool : PoolName) (hands now : List HandValue) → AllZip Follows hands now → All (λ hand. hand.pool ≡ pool) hands → All (λ hand. hand.pool ≡ pool) now
 in_pool pool [] [] all own = All-nil (λ hand. hand.pool ≡ pool)
@@ -88,9 +73,6 @@ own_parts pool (a ∷ hands) (f ∷ files) own are long =
 
 -- what is told since an earlier time ------------------------------------------------------------------------------------
 
-pub count_since : (count a b c : ℕ) → a ≤ b → TellsCount count b c → TellsCount count a c
-count_since count a b c low tells = (let rose = tells.0 in omega arith, tells.1)
-
 -- a stop tells the same since the hands and the counts were lower
 pub stop_since : (e : RunErr) (a b c x y z : ℕ) (hands mid now : List HandValue) → a ≤ b → x ≤ y → AllZip Follows hands mid → TellsStop e b c y z mid now → TellsStop e a c x z hands now
 stop_since (errors.Missing name) a b c x y z hands mid now low out follows tells = tt
@@ -98,8 +80,8 @@ stop_since (errors.LineTooLong name line) a b c x y z hands mid now low out foll
 stop_since (errors.InputTooLong name) a b c x y z hands mid now low out follows tells = tt
 stop_since (errors.PoolTooSmall frames need) a b c x y z hands mid now low out follows tells = absurd tells
 stop_since (errors.TooManyRows line) a b c x y z hands mid now low out follows tells = tt
-stop_since (errors.Read count) a b c x y z hands mid now low out follows tells = count_since count a b c low tells
-stop_since (errors.Write count) a b c x y z hands mid now low out follows tells = count_since count x y z out tells
+stop_since (errors.Read count) a b c x y z hands mid now low out follows tells = tells_since count a b c low tells
+stop_since (errors.Write count) a b c x y z hands mid now low out follows tells = tells_since count x y z out tells
 stop_since (errors.Disk count) a b c x y z hands mid now low out follows tells = hit_since hands mid now count follows tells
 stop_since errors.Damaged a b c x y z hands mid now low out follows tells = λ all. tells (all_tell hands mid follows all)
 stop_since errors.NoMemory a b c x y z hands mid now low out follows tells = tt

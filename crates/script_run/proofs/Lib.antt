@@ -1,4 +1,3 @@
-pub mod Results
 pub mod ToldLemmas
 pub mod HandLemmas
 pub mod LineLemmas

@@ -3,7 +3,7 @@ use Rattle.std.proofs.Common.{◌≡◌, ℕ, ◌-◌, ◌<◌, Bool, true, fals
 use Rattle.std.specs.Prelude.{All}
 use Rattle.std.specs.Option.{option_map}
 use Rattle.std.specs.List.{filter_map, flat_map, range_with_len}
-use Rattle.std.proofs.lemmas.List.Elements.{All-nil, All-cons, All-head}
+use Rattle.std.proofs.lemmas.List.Elements.{All-head}
 use Rattle.row_defs.specs.declared.kind.Kind.{Kind}
 use Rattle.row_defs.specs.Rows.{number_row}
 use Rattle.row_defs.specs.Operands.{Root, stored_root, count_root, root_line}
@@ -18,16 +18,13 @@ use Rattle.scatter.specs.Stocks.{AreInPools}
 use Rattle.scatter.proofs.Rooted.{put_value}
 use Rattle.stage_laws.specs.Standing.{KeepsOneMore, KeepsBut, HasRows, AreAtRoot}
 use Rattle.script_run.specs.Held.{rows_of_line, kept_by, IsKept, AreNumbers}
+use Rattle.place_node.proofs.Lists.{all_some}
 
 -- files that are put ----------------------------------------------------------------------------------------------------
 
 all_there : (files : List FileValue) → filter_map (λ (part : Option FileValue). part) (map (λ (f : FileValue). Some f) files) ≡ files
 all_there [] = refl
 all_there (f ∷ files) = ap (λ (fs : List FileValue). f ∷ fs) (all_there files)
-
-all_some : (files : List FileValue) → All IsSome (map (λ (f : FileValue). Some f) files)
-all_some [] = All-nil IsSome
-all_some (f ∷ files) = All-cons IsSome (Some f) (map (λ (f : FileValue). Some f) files) refl (all_some files)
 
 pub put_rows : (files : List FileValue) → rows_of_line (put_value files) ≡ rows_of_files files
 put_rows files = ap rows_of_files (all_there files)

@@ -10,7 +10,7 @@ use Rattle.script_defs.specs.Reading.{nothing_known}
 use Rattle.script_defs.specs.Sound.{IsSound}
 use Rattle.script_defs.specs.Plans.{Stage, IsStage, IsPlan, item_of}
 use Rattle.script_defs.specs.Needs.{read_by, read_by_stages, inputs_needed}
-use Rattle.script_defs.specs.Ends.{Ending, whole, cut_off}
+use Rattle.script_defs.specs.Ends.{Ending, whole}
 use Rattle.row_defs.specs.Rows.{Row}
 use Rattle.dia_edge.specs.Shelves.{and_asked}
 use Rattle.dia_edge.specs.declared.shelf.Shelf as shelves
@@ -19,9 +19,8 @@ use Rattle.dia_edge.proofs.ShelfLemmas.{stays_none, stays_then}
 use Rattle.dia_lines.specs.Inputs.{AskedBut, AskedSome, Stays}
 use Rattle.stage_builder.specs.declared.plan.Stage as stages
 use Rattle.stage_builder.specs.Views.{stage_in, stages_in}
-use Rattle.actions.proofs.SameLines.{follow_trans}
 use Rattle.stage_laws.specs.Standing.{GoesOn, KeepsOn, Stops, CanDo, Stands, Ended, EndsWith, StillHolds}
-use Rattle.stage_laws.proofs.StageLemmas.{plan_begins, plan_ends, stage_can_be_done, stage_goes_on, stage_stops, nothing_is_done}
+use Rattle.stage_laws.proofs.StageLemmas.{plan_begins, plan_ends, stage_can_be_done, stage_goes_on, stage_stops}
 use Rattle.stage_laws.proofs.EndLemmas.{ends_grow}
 use Rattle.stage_laws.proofs.NeedLemmas.{plan_reads}
 use Rattle.scatter.specs.Lines.{Lines}
@@ -32,7 +31,7 @@ use Rattle.script_run.specs.Steps.{Does, StopsAt}
 use Rattle.script_run.specs.Weighing.{IsWeighed}
 use Rattle.script_run.proofs.WeighLemmas.{weighed_still}
 use Rattle.script_run.proofs.AskedLemmas.{asked_no_one, asked_next, asked_until}
-use Rattle.scatter.proofs.Hands.{follow_refl}
+use Rattle.scatter.proofs.Hands.{follow_refl, follow_trans}
 use Rattle.script_run.proofs.HandLemmas.{stop_since}
 use Rattle.script_run.proofs.ToldLemmas.{told_still}
 
@@ -153,8 +152,3 @@ module _ {N S : Type 0} (n : shelves.Ghosts N) (s : sinks.Ghosts S) (start : Hel
       next_tells e new shelf_new out_new tells =
           stop_since e (n.faults shelf) (n.faults shelf_now) (n.faults shelf_new) (s.faults out) (s.faults out_now) (s.faults out_new) start.hands now.hands new.hands
           h.shelf_stays.counts h.counts h.stays.follows tells
-
--- before the first stage memory ran out
-pub nothing_done : (W : List Row → Type 0) (script : Script) (begun : Option (List ℕ)) → IsSound nothing_known 1 script → (inputs : Inputs)
-    → Ended begun (EndsWith W script inputs cut_off) begun
-nothing_done W script begun sound inputs = nothing_is_done W script begun sound inputs

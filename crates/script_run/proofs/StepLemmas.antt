@@ -29,10 +29,11 @@ use Rattle.script_run.specs.Held.{Held, kept_by, IsKept, IsReady, told_in, told_
 use Rattle.script_run.specs.Reading.{HitsSome}
 use Rattle.script_run.specs.Steps.{Does, StopsAt, IsPut}
 use Rattle.script_run.proofs.ToldLemmas.{told_parts, told_input}
-use Rattle.script_run.proofs.HandLemmas.{SamePermits, same_count, one_still, two_still}
+use Rattle.script_run.proofs.HandLemmas.{SamePermits, one_still, two_still}
 use Rattle.script_run.specs.Weighing.{IsWeighed}
 use Rattle.script_run.proofs.LineLemmas.{keeps_more, all_kept_more}
 use Rattle.script_run.proofs.WeighLemmas.{weighed_still}
+use Rattle.scatter.proofs.Hands.{follow_count}
 
 -- stops -----------------------------------------------------------------------------------------------------------------
 
@@ -130,7 +131,7 @@ hands_ready old new lines script workers waits follows permits ready =
     let Kept : Script → Type 0 = λ s. (k : ℕ) (line : LineValue) → new.lines k ≡ Some line → IsKept s k line in
     let Lined : Lines → Type 0 = λ ls. (k : ℕ) (line : LineValue) → ls k ≡ Some line → IsKept old.script k line in
     record {
-      count = same_count old.hands new.hands follows ∙ ready.count ∙ sym workers;
+      count = follow_count old.hands new.hands follows ∙ ready.count ∙ sym workers;
       some = rw workers ready.some;
       few = rw workers ready.few;
       one = one_still old.hands new.hands follows ready.one;

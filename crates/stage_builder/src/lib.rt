@@ -14,8 +14,6 @@ mod operands;
 mod plan;
 mod readers;
 mod statements;
-#[cfg(test)]
-mod tests;
 mod work;
 
 pub use building::build;

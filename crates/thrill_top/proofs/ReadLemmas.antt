@@ -1,30 +1,18 @@
 -- The bytes of a script.
-use Rattle.std.proofs.Common.{◌≡◌, ℕ, ◌+◌, ◌-◌, ◌<◌, ◌≤◌, true, false, ltb, List, [], ◌∷◌, ◌++◌, length, take, Option, None, Some, Result, Ok, Err, IfOk, IfSome, IsSome, refl, sym, ap, ◌∙◌, subst, arith, append_assoc, length-take}
+use Rattle.std.proofs.Common.{◌≡◌, ℕ, ◌+◌, ◌-◌, ◌<◌, ◌≤◌, true, false, ltb, List, [], ◌∷◌, ◌++◌, length, take, Option, None, Some, Result, Ok, Err, IfOk, IfSome, IsSome, refl, sym, ap, ◌∙◌, subst, arith, length-take}
 use Rattle.std.proofs.lemmas.Bool.{ltb-true, ltb-false, lt-ltb, true≢false}
 use Rattle.std.proofs.lemmas.List.{take_all}
-use Rattle.std.proofs.Math.Seq.{take-append-add}
 use Rattle.row_defs.specs.declared.cause.Cause.TheVariants.{ScriptLong}
 use Rattle.script_defs.specs.Limits.{script_limit, script_lines_limit}
 use Rattle.script_defs.specs.Reading.{reading_of}
 use Rattle.row_defs.specs.Inputs.{Inputs}
 use Rattle.dia_edge.specs.Shelves.{Holdings, GivesPrefix, IsOpened, IsAtEnd}
-
--- one piece more
-pub gives_more : (all left now : Option (List ℕ)) (seen piece : List ℕ) → GivesPrefix all seen left → GivesPrefix left piece now → GivesPrefix all (seen ++ piece) now
-gives_more None left now seen piece p q = tt
-gives_more (Some bytes) left now seen piece p q =
-    let Gives : Option (List ℕ) → Type 0 = λ o. GivesPrefix o piece now in
-    let r = subst Gives p.2 q in
-    (r.0, p.1 ∙ ap (λ (xs : List ℕ). seen ++ xs) r.1 ∙ sym (append_assoc seen piece r.0), r.2)
+use Rattle.dia_edge.proofs.ShelfLemmas.{gives_then}
+use Rattle.dia_lines.proofs.InputLemmas.{take-append-past}
 
 take_prefix : (xs ys : List ℕ) → take (length xs) (xs ++ ys) ≡ xs
 take_prefix [] ys = refl
 take_prefix (x ∷ xs) ys = ap (λ (zs : List ℕ). x ∷ zs) (take_prefix xs ys)
-
-take-append-past : (n : ℕ) (xs ys : List ℕ) → length xs ≤ n → take n (xs ++ ys) ≡ xs ++ take (n - length xs) ys
-take-append-past n xs ys low =
-    let parts : n ≡ length xs + (n - length xs) = omega arith in
-    ap (λ (m : ℕ). take m (xs ++ ys)) parts ∙ take-append-add xs ys (n - length xs)
 
 -- the prefix that a buffer is of its memory
 pub whole_prefix : (xs ys : List ℕ) (n : ℕ) → n ≡ length xs → take n (xs ++ ys) ≡ xs
@@ -39,7 +27,7 @@ buffer_more all left now buffer prefix room total n before is long h =
     let behind : total + n - length prefix ≡ n = omega (arith, long) in
     let whole : take (total + n) (prefix ++ room) ≡ prefix ++ take n room =
     take-append-past (total + n) prefix room (omega (arith, long)) ∙ ap (λ (k : ℕ). prefix ++ take k room) behind in
-    subst Gives (sym whole) (gives_more all left now prefix (take n room) (subst Before (sym is) before) h)
+    subst Gives (sym whole) (gives_then all left now prefix (take n room) (subst Before (sym is) before) h)
 
 -- the buffer is full
 pub buffer_full : (all left : Option (List ℕ)) (buffer : List ℕ) (total : ℕ) → GivesPrefix all (take total buffer) left → length buffer ≤ total

@@ -12,6 +12,3 @@ mod top;
 pub use job::{TopEnd, job_call};
 pub use job_words::TopFault;
 pub use top::thrill_call;
-
-#[cfg(test)]
-mod tests;

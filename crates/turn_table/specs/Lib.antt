@@ -1,3 +1,2 @@
 pub mod Seats
 pub mod Turning
-pub mod Shares

@@ -22,6 +22,3 @@ pub use event::Event;
 pub use seat::{Doing, Seat, Stage, Token};
 pub use shared::Shared;
 pub use turn::Turn;
-
-#[cfg(test)]
-mod tests;

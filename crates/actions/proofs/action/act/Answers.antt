@@ -7,7 +7,7 @@ use Rattle.lop_chain.specs.Operands.{root_in}
 use Rattle.lop_chain.specs.Ops.{ops_in}
 use Rattle.scatter.specs.Stocks.{lines_of}
 use Rattle.scatter.specs.Told.{AreTold, arriving}
-use Rattle.scatter.proofs.Results.{IfErr-map}
+use Rattle.dia_edge.proofs.Results.{IfErr-map}
 use Rattle.feed_actions.specs.Acting.{ActRefused, sum_text}
 use Rattle.actions.specs.Acting.{ActStopped}
 use Rattle.actions.proofs.Stops.{number_stops}

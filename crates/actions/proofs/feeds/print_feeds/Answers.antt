@@ -5,10 +5,9 @@ use Rattle.std.specs.List.{AllZip}
 use Rattle.std.specs.Vec.Iter.{into_iter_items}
 use Rattle.block_pool.specs.Handles.{Follows}
 use Rattle.scatter.specs.Feeds.{FeedValue}
-use Rattle.scatter.proofs.Making.{yield_more, one_longer, drop_more}
-use Rattle.scatter.proofs.Threes.{take_next, map_push}
+use Rattle.scatter.proofs.Threes.{map_push}
 use Rattle.actions.specs.Printing.{CanPrint}
-use Rattle.lent_step.proofs.Lists.{zip_more}
+use Rattle.lent_step.proofs.Lists.{zip_more, take_next, drop_next, yield_more, one_longer}
 use Rattle.actions.proofs.Grown.{printed_next, permits_next}
 use Rattle.actions.proofs.feeds.print_feeds.Goals as goal
 
@@ -27,7 +26,7 @@ loop-feed-preserved g c =
     let ended = c.loop-feed.ended.items in
     record {
       rest = yield_more c.loop-feed.yielded _ _ c.args.feeds.items c.in-Some.feed step i.rest;
-      left = rw more (drop_more n c.args.hands.items c.in-Some-next.hand _ next);
+      left = rw more (drop_next n c.args.hands.items c.in-Some-next.hand _ next);
       can = can.1;
       prints = rw (c.push_reserved-in-loop-feed.ensures.items, more, after)
           (printed_next g.S.Sink c.loop-feed.yielded before ended c.in-Some.feed c.in-Some-next.hand c.print_next-file.new.hand c.args.out.now c.loop-feed.out c.print_next-file.new.out

@@ -6,12 +6,13 @@ use Rattle.lop_chain.specs.Operands.{root_in}
 use Rattle.lop_chain.specs.Ops.{ops_in}
 use Rattle.scatter.specs.Stocks.{lines_of, AreInPools}
 use Rattle.scatter.specs.Phases.{pools_of}
-use Rattle.scatter.proofs.Results.{IfErr-map, OnOk-map}
+use Rattle.dia_edge.proofs.Results.{IfErr-map, OnOk-map}
 use Rattle.feed_print.specs.Printing.{texts_of_rows}
 use Rattle.actions.specs.Acting.{ActStopped}
-use Rattle.actions.proofs.SameLines.{each_line, arriving_still, pools_still, same_pools, still_permits, permits_trans, follow_trans, told_still, told_back}
+use Rattle.actions.proofs.SameLines.{each_line, arriving_still, pools_still, same_pools, still_permits, told_still, told_back}
 use Rattle.actions.proofs.Stops.{stops_since}
 use Rattle.actions.proofs.print.print.Goals as goal
+use Rattle.scatter.proofs.Hands.{follow_trans, permits_trans}
 
 pub print_all-requires-clause-own : goal.print_all-requires-clause-own
 print_all-requires-clause-own g c =

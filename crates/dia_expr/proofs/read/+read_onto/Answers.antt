@@ -3,9 +3,9 @@ use Rattle.std.proofs.lemmas.List.{length-map}
 use Rattle.std.specs.Borrow.{Bor}
 use Rattle.dia_expr.specs.Exprs.{expr_in}
 use Rattle.dia_expr.specs.Reads.{words_in}
-use Rattle.dia_expr.proofs.Answered.{err_is}
 use Rattle.dia_expr.proofs.FaultLemmas.{exprs_of-done, list_stop-first}
 use Rattle.dia_expr.proofs.read.+read_onto.Goals as goal
+use Rattle.dia_edge.proofs.Results.{err_is}
 
 pub returns-then-is_empty-clause-read : goal.returns-then-is_empty-clause-read
 returns-then-is_empty-clause-read t c =

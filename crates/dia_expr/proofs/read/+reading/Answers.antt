@@ -7,9 +7,9 @@ use Rattle.dia_expr.specs.Exprs.{expr_in}
 use Rattle.dia_expr.specs.Beginnings.{form_in, beginning_in}
 use Rattle.dia_expr.specs.Reads.{words_in, IsRead, IsStopAt}
 use Rattle.dia_expr.proofs.ReadLemmas.{stop_empty, stop_unknown, stop_form, stop_behind, read_whole, read_form}
-use Rattle.dia_expr.proofs.Answered.{if_ok, if_err, err_is}
 use Rattle.dia_expr.specs.declared.spelling.Form.{Form}
 use Rattle.dia_expr.proofs.read.+reading.Goals as goal
+use Rattle.dia_edge.proofs.Results.{IfOk-map, IfErr-map, err_is}
 
 pub read_first-returns-in_default-clause-stop : goal.read_first-returns-in_default-clause-stop
 read_first-returns-in_default-clause-stop t c =
@@ -39,7 +39,7 @@ read_first-returns-in-Some-Form-clause-read t c =
     let is : beginning_of c.in-Some.word.now.now ≡ Some (form_in c.in-Some-Form.form) =
     sym c.in_ok-beginning_of.ensures ∙ ap (option_map beginning_in) c.in-Some-Form.is
     ∙ ap (λ b. Some (beginning_in b)) c.in-Some-Form.field-0-is in
-    if_ok _ _ c.read_form.result
+    IfOk-map c.read_form.result _ _
     (λ first r.
     let P : List (List ℕ) → Type 0 = λ ws. IsRead ws (expr_in first.0.value) (words_in first.1.now) in
     subst P (sym e) (read_form c.in-Some.word.now.now (words_in c.in-Some.rest.now) (words_in first.1.now) (form_in c.in-Some-Form.form) (expr_in first.0.value) is r))
@@ -51,7 +51,7 @@ read_first-returns-in-Some-Form-clause-stop t c =
     let is : beginning_of c.in-Some.word.now.now ≡ Some (form_in c.in-Some-Form.form) =
     sym c.in_ok-beginning_of.ensures ∙ ap (option_map beginning_in) c.in-Some-Form.is
     ∙ ap (λ b. Some (beginning_in b)) c.in-Some-Form.field-0-is in
-    if_err _ _ c.read_form.result
+    IfErr-map c.read_form.result _ _
     (λ why s.
     let P : List (List ℕ) → Type 0 = λ ws. IsStopAt 1 why ws in
     subst P (sym e) (stop_form why c.in-Some.word.now.now (words_in c.in-Some.rest.now) (form_in c.in-Some-Form.form) is s))

@@ -2,10 +2,10 @@ use Rattle.std.proofs.Common.{rules, ◌≡◌, ◌∷◌, length, drop, arith, 
 use Rattle.std.proofs.lemmas.Grind.{common_steps}
 use Rattle.std.specs.List.{AllZip}
 use Rattle.std.specs.Vec.Iter.{into_iter_items}
-use Rattle.scatter.proofs.Making.{yield_more, one_longer, drop_more}
-use Rattle.scatter.proofs.Threes.{three_more, take_next}
+use Rattle.scatter.proofs.Threes.{three_more}
 use Rattle.place_node.specs.Ending.{CanEnd, IsBack, IsPartFrom}
 use Rattle.place_node.proofs.ending.end_all.Goals as goal
+use Rattle.lent_step.proofs.Lists.{take_next, drop_next, yield_more, one_longer}
 
 pub loop-sink-preserved : goal.loop-sink-preserved
 loop-sink-preserved g c =
@@ -20,7 +20,7 @@ loop-sink-preserved g c =
     subst (λ hs. AllZip Can (c.in-Some.sink ∷ into_iter_items c.next.new.self) hs) here (subst (λ ss. AllZip Can ss (into_iter_items c.loop-sink.hands)) step i.own) in
     record {
       rest = yield_more c.loop-sink.yielded _ _ c.args.sinks.items c.in-Some.sink step i.rest;
-      left = rw more (drop_more n c.args.hands.items c.in-Some-next.hand _ next);
+      left = rw more (drop_next n c.args.hands.items c.in-Some-next.hand _ next);
       own = own.1;
       done = rw (c.push_reserved-in-loop-sink.ensures.items, more, take_next n c.args.hands.items c.in-Some-next.hand _ next)
           (three_more IsBack _ _ _ c.in-Some.sink c.in-Some-next.hand c.end_one.new.hand i.done c.end_one.ensures.hand);

@@ -2,9 +2,9 @@ use Rattle.std.proofs.Common.{◌≤◌, inl, inr, sym, subst, arith}
 use Rattle.row_defs.specs.Limits.{most_rows}
 use Rattle.scatter.specs.Phases.{AllThree}
 use Rattle.scatter.proofs.Threes.{three_long}
-use Rattle.scatter.proofs.Hands.{cleared_follow}
+use Rattle.scatter.proofs.Hands.{cleared_follow, follow_trans}
 use Rattle.place_node.specs.Ending.{IsBack, IsPartFrom}
-use Rattle.place_node.proofs.Lists.{back_follows, follows_more, parts_in, files_from, parts_few, parts_all}
+use Rattle.place_node.proofs.Lists.{back_follows, parts_in, files_from, parts_few, parts_all}
 use Rattle.place_node.proofs.keeping.keep_all.Goals as goal
 
 pub files_in-requires-clause-room : goal.files_in-requires-clause-room
@@ -55,4 +55,4 @@ pub returns-in-Err-clause-follows : goal.returns-in-Err-clause-follows
 returns-in-Err-clause-follows g c =
     let end = c.end_all-ended in
     let ended = back_follows c.args.sinks.items c.replace-moved.result.items end.result.hands.items end.ensures.hands in
-    rw (← c.replace-moved.ensures.value) (follows_more c.replace-moved.result.items end.result.hands.items c.clear_parts.result.items ended (cleared_follow end.result.parts.items end.result.hands.items c.clear_parts.result.items c.clear_parts.ensures))
+    rw (← c.replace-moved.ensures.value) (follow_trans c.replace-moved.result.items end.result.hands.items c.clear_parts.result.items ended (cleared_follow end.result.parts.items end.result.hands.items c.clear_parts.result.items c.clear_parts.ensures))

@@ -6,9 +6,9 @@ use Rattle.std.specs.Vec.Iter.{into_iter_items}
 use Rattle.block_pool.specs.Handles.{HandValue}
 use Rattle.scatter.specs.Phases.{AllThree}
 use Rattle.scatter.specs.Clearing.{IsPartIn, IsCleared}
-use Rattle.scatter.proofs.Making.{yield_more, one_longer, drop_more}
-use Rattle.scatter.proofs.Threes.{three_more, take_next, zip_long}
+use Rattle.scatter.proofs.Threes.{three_more, zip_long}
 use Rattle.scatter.proofs.clearing.clear_parts.Goals as goal
+use Rattle.lent_step.proofs.Lists.{take_next, drop_next, yield_more, one_longer}
 
 pub loop-part-preserved : goal.loop-part-preserved
 loop-part-preserved g c =
@@ -22,7 +22,7 @@ loop-part-preserved g c =
     subst (λ hs. AllZip IsPartIn hs (c.in-Some.part ∷ into_iter_items c.next.new.self)) here (subst (λ ps. AllZip IsPartIn (into_iter_items c.loop-part.hands) ps) step i.own) in
     record {
       rest = yield_more c.loop-part.yielded _ _ c.args.parts.items c.in-Some.part step i.rest;
-      left = rw more (drop_more n c.args.hands.items c.in-Some-next.hand _ next);
+      left = rw more (drop_next n c.args.hands.items c.in-Some-next.hand _ next);
       own = own.1;
       done = rw (c.push_reserved.ensures.items, more, take_next n c.args.hands.items c.in-Some-next.hand _ next)
           (three_more IsCleared _ _ _ c.in-Some.part c.in-Some-next.hand c.clear_one.new.hand i.done c.clear_one.ensures);

@@ -3,9 +3,9 @@ use Rattle.std.proofs.lemmas.Grind.{common_steps}
 use Rattle.std.specs.List.{AllZip}
 use Rattle.std.specs.Vec.Iter.{into_iter_items}
 use Rattle.scatter.specs.Phases.{IsEnded, IsOwn, file_kept, sink_in}
-use Rattle.scatter.proofs.Making.{yield_more, one_longer, drop_more}
-use Rattle.scatter.proofs.Threes.{three_more, take_next, map_push}
+use Rattle.scatter.proofs.Threes.{three_more, map_push}
 use Rattle.scatter.proofs.ending.end_all.Goals as goal
+use Rattle.lent_step.proofs.Lists.{take_next, drop_next, yield_more, one_longer}
 
 pub loop-send-preserved : goal.loop-send-preserved
 loop-send-preserved g c =
@@ -19,7 +19,7 @@ loop-send-preserved g c =
     subst (λ hs. AllZip IsOwn (c.in-Some.send ∷ into_iter_items c.next.new.self) hs) here (subst (λ ss. AllZip IsOwn ss (into_iter_items c.loop-send.hands)) step i.own) in
     record {
       rest = yield_more c.loop-send.yielded _ _ c.args.sends.items c.in-Some.send step i.rest;
-      left = rw more (drop_more n c.args.hands.items c.in-Some-next.hand _ next);
+      left = rw more (drop_next n c.args.hands.items c.in-Some-next.hand _ next);
       own = own.1;
       done = rw (c.push_reserved-in-loop-send-2.ensures.items, more, take_next n c.args.hands.items c.in-Some-next.hand _ next)
           (three_more IsEnded _ _ _ c.in-Some.send c.in-Some-next.hand c.end.new.hand i.done (c.end.ensures.follows, c.end.ensures.permits));

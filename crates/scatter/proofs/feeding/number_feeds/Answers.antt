@@ -3,8 +3,9 @@ use Rattle.std.proofs.lemmas.Grind.{common_steps}
 use Rattle.std.specs.Vec.Iter.{into_iter_items}
 use Rattle.lop_chain.specs.Chains.{chain_ops}
 use Rattle.collective.specs.Shares.{share_start}
-use Rattle.scatter.proofs.Making.{yield_more, one_longer, not_all, chain_at, more_numbers}
+use Rattle.scatter.proofs.Making.{not_all, chain_at, more_numbers}
 use Rattle.scatter.proofs.feeding.number_feeds.Goals as goal
+use Rattle.lent_step.proofs.Lists.{yield_more, one_longer}
 
 pub loop-chain-preserved : goal.loop-chain-preserved
 loop-chain-preserved c =

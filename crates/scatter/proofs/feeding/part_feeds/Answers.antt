@@ -3,9 +3,10 @@ use Rattle.std.proofs.lemmas.Grind.{common_steps}
 use Rattle.std.specs.Vec.Iter.{into_iter_items}
 use Rattle.lop_chain.specs.Chains.{chain_ops}
 use Rattle.scatter.specs.Feeds.{part_feed}
-use Rattle.scatter.proofs.Making.{yield_more, one_longer, drop_more, next_ops, more_parts}
+use Rattle.scatter.proofs.Making.{next_ops, more_parts}
 use Rattle.scatter.proofs.Rooted.{present}
 use Rattle.scatter.proofs.feeding.part_feeds.Goals as goal
+use Rattle.lent_step.proofs.Lists.{drop_next, yield_more, one_longer}
 
 pub loop-part-preserved : goal.loop-part-preserved
 loop-part-preserved c =
@@ -16,7 +17,7 @@ loop-part-preserved c =
     let more = one_longer c.loop-part.yielded c.in-Some.part in
     record {
       rest = yield_more c.loop-part.yielded _ _ c.args.parts.items c.in-Some.part step i.rest;
-      left = rw more (drop_more n c.args.chains.items c.in-Some-next.chain _ next);
+      left = rw more (drop_next n c.args.chains.items c.in-Some-next.chain _ next);
       feeds = λ ops are.
           c.push_reserved.ensures.items
           ∙ more_parts c.args.last ops (chain_ops c.in-Some-next.chain) c.loop-part.feeds.items c.loop-part.yielded c.in-Some.part c.in-Some-part.file c.of_part.result (i.feeds ops are) c.in-Some-part.is

@@ -2,9 +2,9 @@ use Rattle.std.proofs.Common.{rules, ◌≡◌, ◌∷◌, length, drop, arith}
 use Rattle.std.proofs.lemmas.Grind.{common_steps}
 use Rattle.std.specs.Vec.Iter.{into_iter_items}
 use Rattle.scatter.specs.Phases.{HasBegun}
-use Rattle.scatter.proofs.Making.{yield_more, one_longer, drop_more}
-use Rattle.scatter.proofs.Threes.{three_more, take_next}
+use Rattle.scatter.proofs.Threes.{three_more}
 use Rattle.scatter.proofs.phase.pair_all.Goals as goal
+use Rattle.lent_step.proofs.Lists.{take_next, drop_next, yield_more, one_longer}
 
 pub loop-feed-preserved : goal.loop-feed-preserved
 loop-feed-preserved g c =
@@ -15,7 +15,7 @@ loop-feed-preserved g c =
     let more = one_longer c.loop-feed.yielded c.in-Some.feed in
     record {
       rest = yield_more c.loop-feed.yielded _ _ c.args.feeds.items c.in-Some.feed step i.rest;
-      left = rw more (drop_more n c.args.sinks.items c.in-Some-next.sink _ next);
+      left = rw more (drop_next n c.args.sinks.items c.in-Some-next.sink _ next);
       begun = rw (c.push_reserved.ensures.items, more, take_next n c.args.sinks.items c.in-Some-next.sink _ next)
           (three_more HasBegun _ _ _ c.in-Some.feed c.in-Some-next.sink c.new.result i.begun
           (record { feed_is = c.new.ensures.feed; sink_is = c.new.ensures.sink; feed_was = c.new.ensures.feed_was; sink_was = c.new.ensures.sink_was }));

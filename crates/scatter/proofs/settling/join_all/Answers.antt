@@ -2,9 +2,9 @@ use Rattle.std.proofs.Common.{rules, ◌≡◌, ◌∷◌, length, drop, arith}
 use Rattle.std.proofs.lemmas.Grind.{common_steps}
 use Rattle.std.specs.Vec.Iter.{into_iter_items}
 use Rattle.scatter.specs.Carrying.{IsJoined}
-use Rattle.scatter.proofs.Making.{yield_more, one_longer, drop_more}
-use Rattle.scatter.proofs.Threes.{three_more, take_next}
+use Rattle.scatter.proofs.Threes.{three_more}
 use Rattle.scatter.proofs.settling.join_all.Goals as goal
+use Rattle.lent_step.proofs.Lists.{take_next, drop_next, yield_more, one_longer}
 
 pub loop-front-preserved : goal.loop-front-preserved
 loop-front-preserved c =
@@ -15,7 +15,7 @@ loop-front-preserved c =
     let more = one_longer c.loop-front.yielded c.in-Some.front in
     record {
       rest = yield_more c.loop-front.yielded _ _ c.args.fronts.items c.in-Some.front step i.rest;
-      left = rw more (drop_more n c.args.boxes.items c.in-Some-next.rest _ next);
+      left = rw more (drop_next n c.args.boxes.items c.in-Some-next.rest _ next);
       joined = rw (c.push_reserved.ensures.items, more, take_next n c.args.boxes.items c.in-Some-next.rest _ next)
           (three_more IsJoined _ _ _ c.in-Some.front c.in-Some-next.rest c.in_ok-join.field-0 i.joined c.in_ok-join.ensures);
       count = grind (arith, common_steps);

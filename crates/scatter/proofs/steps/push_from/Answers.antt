@@ -2,7 +2,7 @@ use Rattle.row_defs.specs.LocalOps.{rows_through}
 use Rattle.dia_item.specs.Lent.{row_in_ref}
 use Rattle.lop_chain.specs.Chains.{chain_ops}
 use Rattle.lop_chain.specs.Through.{TookSome-from}
-use Rattle.scatter.proofs.Results.{IfErr-map}
+use Rattle.dia_edge.proofs.Results.{IfErr-map}
 use Rattle.scatter.proofs.steps.push_from.Goals as goal
 
 pub returns-clause-err : goal.returns-clause-err

@@ -9,22 +9,23 @@ use Rattle.stage_laws.specs.Standing.{Ended, EndsWith}
 use Rattle.script_run.specs.Errors.{ending_of, ending_in}
 use Rattle.script_run.specs.Weighing.{IsWeighed, IsSpilled}
 use Rattle.script_run.proofs.AskedLemmas.{asked_no_one}
-use Rattle.script_run.proofs.PlanLemmas.{nothing_done, ended_grows}
+use Rattle.script_run.proofs.PlanLemmas.{ended_grows}
 use Rattle.script_run.proofs.PoolLemmas.{hands_in, hands_have, tells_as, passes_in, stop_told, told_all, open_cut}
-use Rattle.script_run.proofs.Results.{IfErr-from}
 use Rattle.script_run.proofs.WeighLemmas.{spilled}
 use Rattle.script_run.proofs.pool.run_job.Goals as goal
+use Rattle.dia_edge.proofs.Results.{IfErr-map}
+use Rattle.stage_laws.proofs.StageLemmas.{nothing_is_done}
 
 pub returns-in_default-clause-ends : goal.returns-in_default-clause-ends
 returns-in_default-clause-ends g c = λ inputs all.
-    nothing_done (IsSpilled c.args.setup.limit c.args.setup.block (g.D.Disk.writes c.args.disk) (g.D.Disk.writes c.args.disk)) c.args.script.now (g.S.Sink.taken c.args.out.now) c.requires.sound inputs
+    nothing_is_done (IsSpilled c.args.setup.limit c.args.setup.block (g.D.Disk.writes c.args.disk) (g.D.Disk.writes c.args.disk)) c.args.script.now (g.S.Sink.taken c.args.out.now) c.requires.sound inputs
 
 pub returns-in_default-clause-asked : goal.returns-in_default-clause-asked
 returns-in_default-clause-asked g c = let needed = inputs_needed c.args.script.now in (needed, asked_no_one g.N.Shelf c.args.shelf.now c.args.shelf.now needed refl)
 
 pub returns-in_default-with_capacity-clause-ends : goal.returns-in_default-with_capacity-clause-ends
 returns-in_default-with_capacity-clause-ends g c = λ inputs all.
-    nothing_done (IsSpilled c.args.setup.limit c.args.setup.block (g.D.Disk.writes c.args.disk) (g.D.Disk.writes c.args.disk)) c.args.script.now (g.S.Sink.taken c.args.out.now) c.requires.sound inputs
+    nothing_is_done (IsSpilled c.args.setup.limit c.args.setup.block (g.D.Disk.writes c.args.disk) (g.D.Disk.writes c.args.disk)) c.args.script.now (g.S.Sink.taken c.args.out.now) c.requires.sound inputs
 
 pub returns-in_default-with_capacity-clause-asked : goal.returns-in_default-with_capacity-clause-asked
 returns-in_default-with_capacity-clause-asked g c = let needed = inputs_needed c.args.script.now in (needed, asked_no_one g.N.Shelf c.args.shelf.now c.args.shelf.now needed refl)
@@ -36,7 +37,7 @@ returns-in-Err-clause-ends g c = λ inputs all.
     Ended (g.S.Sink.taken c.args.out.now) (EndsWith (IsSpilled c.args.setup.limit c.args.setup.block (g.D.Disk.writes c.args.disk) (g.D.Disk.writes c.in-Err.disk)) c.args.script.now inputs e)
     (g.S.Sink.taken c.args.out.now) in
     subst End (sym same)
-    (nothing_done (IsSpilled c.args.setup.limit c.args.setup.block (g.D.Disk.writes c.args.disk) (g.D.Disk.writes c.in-Err.disk)) c.args.script.now (g.S.Sink.taken c.args.out.now) c.requires.sound inputs)
+    (nothing_is_done (IsSpilled c.args.setup.limit c.args.setup.block (g.D.Disk.writes c.args.disk) (g.D.Disk.writes c.in-Err.disk)) c.args.script.now (g.S.Sink.taken c.args.out.now) c.requires.sound inputs)
 
 pub returns-in-Err-clause-asked : goal.returns-in-Err-clause-asked
 returns-in-Err-clause-asked g c = let needed = inputs_needed c.args.script.now in (needed, asked_no_one g.N.Shelf c.args.shelf.now c.args.shelf.now needed refl)
@@ -89,7 +90,7 @@ returns-clause-told g c =
     let passes = c.passes_of-passes.result.items in
     let own = hands_in name (setup.workers + SPARE_PERMITS) c.in-Ok-open.opened.1.items hands c.hands_for-hands.ensures.hands c.in-Ok-open.ensures.shares.each in
     let are = passes_in name hands now passes own c.run_accepted-result.ensures.follows c.passes_of-passes.ensures.passes in
-    IfErr-from _ _ _ (λ e tells.
+    IfErr-map _ _ _ (λ e tells.
     stop_told name e (g.N.Shelf.faults c.args.shelf.now) (g.N.Shelf.faults c.run_accepted-result.new.shelf) (g.S.Sink.faults c.args.out.now) (g.S.Sink.faults c.run_accepted-result.new.out)
     (g.D.Disk.faults c.finish-disk.result) (g.D.Disk.writes c.finish-disk.result) hands now passes own c.passes_of-passes.ensures.passes are c.finish-disk.ensures tells)
     c.run_accepted-result.ensures.told

@@ -4,10 +4,10 @@ use Rattle.std.proofs.Math.ListN.{set}
 use Rattle.block_pool.specs.Handles.{PoolName}
 use Rattle.dia_file.specs.Files.{FileValue, IsFileOf}
 use Rattle.input_file.specs.declared.refusals.ReadFileErr.{ReadFileErr}
-use Rattle.actions.proofs.SameLines.{follow_trans}
 use Rattle.script_run.specs.Reading.{HitsSome}
-use Rattle.script_run.proofs.HandLemmas.{set_follows, set_permits, set_some, permits_then, first_in, own_parts, disk_hits}
+use Rattle.script_run.proofs.HandLemmas.{set_follows, set_permits, set_some, first_in, own_parts, disk_hits}
 use Rattle.script_run.proofs.reading.read_parts.Goals as goal
+use Rattle.scatter.proofs.Hands.{follow_trans, permits_trans}
 
 pub returns-in_err-file-clause-disk : goal.returns-in_err-file-clause-disk
 returns-in_err-file-clause-disk g c =
@@ -42,7 +42,7 @@ pub returns-in-Err-clause-permits : goal.returns-in-Err-clause-permits
 returns-in-Err-clause-permits g c =
     let hands = c.args.hands.now.items in
     let mid = set hands 0 c.read_file.new.hand in
-    permits_then hands mid (set mid 0 c.clear.new.hand)
+    permits_trans hands mid (set mid 0 c.clear.new.hand)
     (set_permits hands c.index_mut.result.now c.read_file.new.hand (let some : 0 < length c.args.hands.now.items = search rules in some) c.index_mut.ensures.value c.in_ok-file.ensures.permits)
     (set_permits mid c.index_mut-in-Err.result.now c.clear.new.hand (set_some hands c.read_file.new.hand (let some : 0 < length c.args.hands.now.items = search rules in some)) c.index_mut-in-Err.ensures.value c.clear.ensures.permits)
 

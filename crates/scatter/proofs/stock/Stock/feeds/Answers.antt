@@ -9,7 +9,7 @@ use Rattle.scatter.specs.Lines.{LineValue, AreChainsOf, lines_in, HasRoot, IsFed
 use Rattle.scatter.specs.Stocks.{StockValue, stock_value, lines_of, IsToRestore, IsLine, AreLines, IsPartOf, FeedsAreInPools}
 use Rattle.std.specs.BTreeMap.{BTreeMap}
 use Rattle.scatter.specs.declared.line.Line.{Line}
-use Rattle.scatter.proofs.Results.{IfOk-map, IfOk-with, OnOk-map, on_each}
+use Rattle.dia_edge.proofs.Results.{IfOk-map, IfOk-with, OnOk-map, on_each}
 use Rattle.scatter.proofs.Rooted.{feed_rows, FeedHasKinds, root_count, root_kinds_are, root_rows_are, root_pools, fed_still, lent_line, lent_pools, to_restore}
 use Rattle.scatter.proofs.stock.Stock.feeds.Goals as goal
 

@@ -11,20 +11,21 @@ use Rattle.lop_chain.specs.Operands.{operand_in}
 use Rattle.scatter.specs.Lines.{HasKinds}
 use Rattle.scatter.specs.Phases.{pools_of}
 use Rattle.scatter.specs.Told.{AreTold, arriving}
-use Rattle.actions.proofs.SameLines.{same_pools, follow_trans}
+use Rattle.actions.proofs.SameLines.{same_pools}
 use Rattle.script_run.specs.declared.run_err.RunErr.{RunErr}
 use Rattle.script_run.specs.declared.run_err.RunErr.TheVariants as errors
 use Rattle.script_run.specs.Held.{held_of}
 use Rattle.script_run.specs.Steps.{StopsAt}
 use Rattle.script_run.specs.Weighing.{IsWeighed}
-use Rattle.script_run.proofs.Results.{OnOk-from, IfErr-from}
 use Rattle.script_run.proofs.ActLemmas.{used_ready}
 use Rattle.script_run.proofs.CacheLemmas.{cache_goes_on, cache_stops}
-use Rattle.script_run.proofs.HandLemmas.{one_still, permits_then}
+use Rattle.script_run.proofs.HandLemmas.{one_still}
 use Rattle.script_run.proofs.PlanLemmas.{held_then}
 use Rattle.script_run.proofs.StepLemmas.{memory_stops, follows_put}
 use Rattle.script_run.proofs.TaskLemmas.{cache_kinds}
 use Rattle.script_run.proofs.team.Team.cache.Goals as goal
+use Rattle.dia_edge.proofs.Results.{IfErr-map, OnOk-map}
+use Rattle.scatter.proofs.Hands.{follow_trans, permits_trans}
 
 pub weigh-requires-clause-one : goal.weigh-requires-clause-one
 weigh-requires-clause-one g c = one_still c.args.self.now.hands.items c.run.new.hands.items c.run.ensures.follows c.requires.ready.one
@@ -55,7 +56,7 @@ put-requires-clause-ready g c = λ κs lives.
       script = refl;
       workers = c.run.ensures.workers;
       follows = follow_trans old.hands c.run.new.hands.items c.weigh.new.hands.items c.run.ensures.follows c.weigh.ensures.follows;
-      permits = permits_then old.hands c.run.new.hands.items c.weigh.new.hands.items c.in-Ok.ensures.permits c.weigh.ensures.permits;
+      permits = permits_trans old.hands c.run.new.hands.items c.weigh.new.hands.items c.in-Ok.ensures.permits c.weigh.ensures.permits;
       empty = c.requires.ready.empty;
     }) c.requires.ready
 
@@ -89,7 +90,7 @@ returns-in_ok-files-in-Ok-clause-ok g c = λ told taken.
     let now = c.weigh.new.hands.items in
     let follows = follow_trans old.hands c.run.new.hands.items now c.run.ensures.follows c.weigh.ensures.follows in
     let Weighed-files : List FileValue → Type 0 = λ fs. IsWeighed now (rows_of_files fs) in
-    OnOk-from _ _ _ (λ put.
+    OnOk-map _ _ _ (λ put.
     let Weighed-hands : List HandValue → Type 0 = λ hs. IsWeighed hs (rows_of_files files) in
     cache_goes_on c.args.number c.requires.is.0 o old told c.requires.is.1 c.requires.can.rows c.requires.ready files _ new taken c.in-Ok.ensures.lines
     (subst Rows (sym same) c.in-Ok.ensures.rows) (subst Few (sym same) c.in-Ok.ensures.few) (follows_put old.hands now new.hands put.hands follows)
@@ -97,7 +98,7 @@ returns-in_ok-files-in-Ok-clause-ok g c = λ told taken.
 
 pub returns-in_ok-files-in-Ok-clause-refused : goal.returns-in_ok-files-in-Ok-clause-refused
 returns-in_ok-files-in-Ok-clause-refused g c = λ told taken.
-    IfErr-from _ _ _ (λ e none. memory_stops (do_line c.args.number) told (held_of c.args.self.now) taken e none) c.put.ensures.err
+    IfErr-map _ _ _ (λ e none. memory_stops (do_line c.args.number) told (held_of c.args.self.now) taken e none) c.put.ensures.err
 
 pub returns-in_ok-files-in-Ok-clause-stays : goal.returns-in_ok-files-in-Ok-clause-stays
 returns-in_ok-files-in-Ok-clause-stays g c =

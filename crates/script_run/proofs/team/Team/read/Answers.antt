@@ -8,11 +8,11 @@ use Rattle.dia_file.specs.Files.{IsFileOf}
 use Rattle.scatter.specs.Lines.{HasKinds}
 use Rattle.actions.proofs.SameLines.{same_pools}
 use Rattle.script_run.specs.Held.{held_of, told_in}
-use Rattle.script_run.proofs.Results.{OnOk-from, IfErr-from}
 use Rattle.script_run.proofs.PlanLemmas.{held_then}
 use Rattle.script_run.proofs.StepLemmas.{hands_ready, input_goes_on, input_stops, memory_stops, follows_put}
 use Rattle.script_run.proofs.TaskLemmas.{text_kinds}
 use Rattle.script_run.proofs.team.Team.read.Goals as goal
+use Rattle.dia_edge.proofs.Results.{IfErr-map, OnOk-map}
 
 pub put-requires-clause-ready : goal.put-requires-clause-ready
 put-requires-clause-ready g c = λ κs lives.
@@ -32,13 +32,13 @@ pub returns-in-Ok-clause-ok : goal.returns-in-Ok-clause-ok
 returns-in-Ok-clause-ok g c = λ taken.
     let old = held_of c.args.self.now in
     let new = held_of c.put.new.self in
-    OnOk-from _ _ _ (λ put.
+    OnOk-map _ _ _ (λ put.
     input_goes_on c.args.number c.requires.is.0 c.args.input.now c.in-Ok.files.items old _ new (g.N.Shelf.holds c.args.shelf.now) (g.N.Shelf.is_fixed c.args.shelf.now) taken
     c.requires.is.1 c.in-Ok.ensures.read refl (follows_put old.hands c.read_parts.new.hands.items new.hands put.hands c.read_parts.ensures.follows) put) c.put.ensures.ok
 
 pub returns-in-Ok-clause-refused : goal.returns-in-Ok-clause-refused
 returns-in-Ok-clause-refused g c = λ taken.
-    IfErr-from _ _ _ (λ e none. memory_stops (do_line c.args.number) (told_in (g.N.Shelf.holds c.args.shelf.now) (g.N.Shelf.is_fixed c.args.shelf.now)) (held_of c.args.self.now) taken e none) c.put.ensures.err
+    IfErr-map _ _ _ (λ e none. memory_stops (do_line c.args.number) (told_in (g.N.Shelf.holds c.args.shelf.now) (g.N.Shelf.is_fixed c.args.shelf.now)) (held_of c.args.self.now) taken e none) c.put.ensures.err
 
 pub returns-in-Ok-clause-stays : goal.returns-in-Ok-clause-stays
 returns-in-Ok-clause-stays g c =

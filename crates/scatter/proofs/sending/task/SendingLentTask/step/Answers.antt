@@ -2,7 +2,7 @@ use Rattle.std.proofs.Common.{sym, subst}
 use Rattle.block_pool.specs.Handles.{PoolName}
 use Rattle.scatter.specs.Sends.{IsSent, CanGoOn, IsAllSent, Unsent}
 use Rattle.scatter.specs.SendLaws.{same_feed_trans}
-use Rattle.scatter.proofs.Results.{IfErr-map}
+use Rattle.dia_edge.proofs.Results.{IfErr-map}
 use Rattle.scatter.proofs.SentRows.{sent_more, unsent_on, more_of, done_of}
 use Rattle.scatter.proofs.sending.task.SendingLentTask.step.Goals as goal
 

@@ -1,8 +1,0 @@
-use Rattle.std.proofs.Common.{◌≡◌}
-use Rattle.block_pool.proofs.tests.spilled_blocks_are_shown.Given as goal
-
-abbrev pub invariant-loop-block : goal.invariant-loop-block
-invariant-loop-block g l = record {
-  pool : l.hand.pool ≡ l.initial.hand.pool;
-  permits : l.hand.permits ≡ l.initial.hand.permits;
-}

@@ -1,0 +1,1 @@
+-- Hands before and after an action.

@@ -1,0 +1,4 @@
+pub mod Rounds
+pub mod Posting
+pub mod Placing
+pub mod Adding

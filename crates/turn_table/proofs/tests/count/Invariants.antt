@@ -1,5 +1,0 @@
-use Rattle.std.proofs.Common.{◌≡◌, ◌+◌, ◌≤◌}
-use Rattle.turn_table.proofs.tests.count.Given as goal
-
-abbrev pub invariant-loop-round : goal.invariant-loop-round
-invariant-loop-round g l = (l.part.counter ≡ l.fn.part.counter) × (l.part.amount ≡ l.fn.part.amount + l.counted) × (l.counted ≤ l._round)

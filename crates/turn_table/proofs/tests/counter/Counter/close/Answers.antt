@@ -1,6 +1,0 @@
-use Rattle.std.proofs.Common.{ap, arith}
-use Rattle.turn_table.proofs.Sharing.{within}
-use Rattle.turn_table.proofs.tests.counter.Counter.close.Goals as goal
-
-pub returns : goal.returns
-returns g c = let b = within _ _ c.close-total.ensures.meets in let e = ap (λ share. share.amount) c.part.view_is in omega arith
