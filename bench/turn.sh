@@ -7,21 +7,21 @@
 
 runs=9
 
-# The program is a test in a copy of the crate, since the counter stands among the crate's tests.
+# The program is a test in a copy of the crate of tests, since the counter stands there.
 say "proving and building (some minutes where the turn's tests weren't proved before) ..."
-copy_repository turn_table dia_edge
-crate=$work/repository/crates/turn_table
-mkdir -p "$crate/proofs/tests/bench/go"
-cp "$here/turn/bench.rt.txt" "$crate/src/tests/bench.rt"
-cp "$here/turn/Invariants.antt.txt" "$crate/proofs/tests/bench/go/Invariants.antt"
-sed -i 's/^mod counter;/mod bench;\nmod counter;/' "$crate/src/tests.rt"
+copy_repository pool_tests block_pool pool_core pool_defs turn_table dia_edge
+crate=$work/repository/crates/pool_tests
+mkdir -p "$crate/proofs/turn/bench/go"
+cp "$here/turn/bench.rt.txt" "$crate/src/turn/bench.rt"
+cp "$here/turn/Invariants.antt.txt" "$crate/proofs/turn/bench/go/Invariants.antt"
+sed -i 's/^mod counter;/mod bench;\nmod counter;/' "$crate/src/turn.rt"
 rustc --edition 2021 -O -o "$work/plain" "$here/turn/plain.rs"
-in_crate turn_table rt test
-program=$crate/out/turn_table_tests
+in_crate pool_tests rt test
+program=$crate/out/pool_tests_tests
 
 alone=() together=()
 for _ in $(seq "$runs"); do
-    "$program" tests::bench::by_the_clock >"$work/out"
+    "$program" turn::bench::by_the_clock >"$work/out"
     grep -q 'test result: ok' "$work/out"
     read -r turn_alone turn_together total < <(grep -o 'turns [0-9 ]*' "$work/out" | cut -d' ' -f2-)
     read -r _ plain_alone plain_together plain_total < <("$work/plain")
