@@ -1,4 +1,3 @@
 pub mod Rounds
 pub mod Posting
-pub mod Placing
-pub mod Adding
+pub mod WorkedFiles

@@ -1,4 +1,4 @@
 pub mod Rounds
 pub mod Posted
 pub mod Stocked
-pub mod Placing
+pub mod WorkedFiles

@@ -7,7 +7,7 @@ ghost use Rattle.block_pool.specs.Workers.{new_pool};
 ghost use Rattle.lop_chain.specs.Ops.{ops_in};
 ghost use Rattle.scatter.specs.Stocks.{lines_of};
 ghost use Rattle.scatter.specs.Phases.{pools_of};
-ghost use Rattle.stock_tests.specs.Placing.{AreReady, AreHands, IsStocked};
+ghost use Rattle.stock_tests.specs.WorkedFiles.{AreReady, AreHands, IsStocked};
 
 use block_pool::{Hand, OpenErr, Pass, Permits, Pool};
 use dia_edge::{MemDisk, NoMemory, OpenGate};

@@ -3,7 +3,7 @@ use Rattle.std.proofs.lemmas.Slice.Zip.{AllZip-long}
 use Rattle.block_pool.specs.Handles.{Follows}
 use Rattle.block_pool.specs.Workers.{new_pool}
 use Rattle.scatter.specs.Stocks.{lines_of}
-use Rattle.stock_tests.proofs.Placing.{all_own, still_hands, still_stocked}
+use Rattle.stock_tests.proofs.WorkedFiles.{all_own, still_hands, still_stocked}
 use Rattle.stock_tests.proofs.placing.cache_odd.Goals as goal
 
 pub returns-in-Ok-run-clause-own : goal.returns-in-Ok-run-clause-own

@@ -1,7 +1,7 @@
 use Rattle.std.proofs.Common.{◌≡◌, length, vec_len}
 use Rattle.std.specs.Prelude.{vec_capacity}
 use Rattle.block_pool.specs.Workers.{new_pool}
-use Rattle.stock_tests.specs.Placing.{AreHands}
+use Rattle.stock_tests.specs.WorkedFiles.{AreHands}
 use Rattle.stock_tests.proofs.placing.hands_of.Given as goal
 
 abbrev pub invariant-loop-pass : goal.invariant-loop-pass

@@ -7,7 +7,7 @@ use Rattle.lop_chain.specs.declared.operand.Root.{Root}
 use Rattle.lop_chain.specs.Operands.{root_in}
 use Rattle.scatter.specs.Stocks.{lines_of}
 use Rattle.scatter.specs.Phases.{IsUsed, pools_of}
-use Rattle.stock_tests.proofs.Placing.{all_own, still_hands, none_in, put_stocked}
+use Rattle.stock_tests.proofs.WorkedFiles.{all_own, still_hands, none_in, put_stocked}
 use Rattle.stock_tests.proofs.placing.store.Goals as goal
 
 pub returns-in-Err-clause-own : goal.returns-in-Err-clause-own

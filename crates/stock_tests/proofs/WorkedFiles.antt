@@ -15,7 +15,7 @@ use Rattle.scatter.specs.Lines.{Lines, Sets, HasKinds, first_kinds, kinds_of_lin
 use Rattle.scatter.specs.Stocks.{AreInPools, IsPartOf}
 use Rattle.scatter.specs.Phases.{IsUsed, pools_of}
 use Rattle.place_node.specs.Placing.{HasTwoPermits}
-use Rattle.stock_tests.specs.Placing.{AreHands, IsStocked}
+use Rattle.stock_tests.specs.WorkedFiles.{AreHands, IsStocked}
 use Rattle.place_node.proofs.Lists.{all_some}
 
 abbrev IsOwn : PoolName → HandValue → Type 0

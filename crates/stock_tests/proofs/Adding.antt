@@ -1,1 +1,0 @@
--- Hands before and after an action.
