@@ -1,0 +1,7 @@
+//! Tests of exchanges between workers, at their public calls.
+//!
+//! They stand apart from what they test, so that a check of that isn't made twice.
+#![tactic(auto)]
+
+#[cfg(test)]
+mod receiving;
