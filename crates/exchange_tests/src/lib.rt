@@ -4,4 +4,6 @@
 #![tactic(auto)]
 
 #[cfg(test)]
+mod linking;
+#[cfg(test)]
 mod receiving;

@@ -1,0 +1,5 @@
+pub mod Linking
+pub mod Refusals
+pub mod Scattering
+pub mod Making
+pub mod Dealers
