@@ -1,13 +1,17 @@
 //! Numbers that two workers send to each other.
-ghost use Rattle.std.specs.Prelude.{◌≡◌, ◌≤◌, ◌<◌, ◌∷◌, [], ℕ, None, All, IfOk, vec_len, vec_capacity};
+ghost use Rattle.std.specs.Prelude.{◌≡◌, ◌≤◌, ◌<◌, ◌∷◌, [], ℕ, None, All, IfOk, OnOk, vec_len, vec_capacity};
 ghost use Rattle.row_defs.specs.declared.kind.Kind.TheVariants.{Int};
 ghost use Rattle.row_defs.specs.LocalOps.{AreSoundOps};
 ghost use Rattle.dia_item.specs.KindList.{kind_list};
 ghost use Rattle.block_pool.specs.Workers.{new_pool};
 ghost use Rattle.lop_chain.specs.Ops.{ops_in};
 ghost use Rattle.scatter.specs.Stocks.{lines_of};
+ghost use Rattle.exchange_tests.specs.Boxed as Boxed;
+ghost use Rattle.exchange_tests.specs.Boxed.{AreBoxes};
 ghost use Rattle.exchange_tests.specs.Linked.{AreHands, AreReady};
 
+use crate::receiving::keep::Keep;
+use crate::receiving::receive;
 use block_pool::{Hand, OpenErr, Pass, Permits, Pool};
 use dia_edge::{MemDisk, OpenGate};
 use dia_item::{Kind, Kinds, RowRef};
@@ -104,6 +108,9 @@ fn link_numbers<'p, R: Threads + Wait + Sync>(
     requires none { (n : ℕ) → lines_of stock.old n ≡ None }
     ensures own { All (λ hand. hand.pool ≡ new_pool pool.now 28 4096) hands.new.items }
     ensures len { vec_len hands.new ≡ 2 }
+    ensures hands { OnOk result (Boxed.AreHands (new_pool pool.now 28 4096) hands.new.items) }
+    ensures boxes { IfOk result (λ boxes. AreBoxes (new_pool pool.now 28 4096) boxes.items) }
+    ensures count { IfOk result (λ boxes. vec_len boxes ≡ 2) }
 {
     let _ = pool;
     let operand = numbers(alloc, rows);
@@ -115,6 +122,38 @@ fn link_numbers<'p, R: Threads + Wait + Sync>(
         routes,
     };
     link.run(rt, alloc, way, stock, &operand, hands)
+}
+
+/// What both workers keep of the numbers that are sent to them.
+fn exchange<'p, R: Threads + Wait + Sync>(
+    rt: &R,
+    alloc: Global,
+    way: &mut Way<'_, OpenGate>,
+    pool: &'p Pool<MemDisk>,
+    rows: u64,
+    hands: &mut Vec<Hand<'p, MemDisk>>,
+) -> Option<(Vec<u64>, Vec<u64>)>
+    requires hands { AreHands (new_pool pool.now 28 4096) hands.old.items }
+    requires len { vec_len hands.old ≡ 2 }
+    ensures own { All (λ hand. hand.pool ≡ new_pool pool.now 28 4096) hands.new.items }
+    ensures len { vec_len hands.new ≡ 2 }
+{
+    let Ok(mut stock) = Stock::new(alloc, Home, 2) else {
+        return None;
+    };
+    let Ok(boxes) = link_numbers(rt, alloc, way, pool, rows, &mut stock, hands) else {
+        return None;
+    };
+    let zero = Keep::new(Vec::new(alloc), 9);
+    let one = Keep::new(Vec::new(alloc), 9);
+    let Ok(mut sinks) = vec![in alloc; zero, one] else {
+        return None;
+    };
+    let answer = receive(rt, alloc, way, pool, hands, boxes, &mut sinks);
+    match (answer, sinks.pop(), sinks.pop()) {
+        (Ok(()), Some(one), Some(zero)) => Some((zero.numbers, one.numbers)),
+        _ => None,
+    }
 }
 
 /// How many packets came to each of both workers.
@@ -152,7 +191,24 @@ fn link_all<'p, R: Threads + Wait + Sync>(
     }
 }
 
-/// The same in a pool of their own, whose disk fails at a call where it says so.
+/// What they keep in a pool of their own.
+fn kept<R: Threads + Wait + Sync>(
+    rt: &R,
+    alloc: Global,
+    way: &mut Way<'_, OpenGate>,
+    rows: u64,
+) -> Option<(Vec<u64>, Vec<u64>)> {
+    let hands = Vec::with_capacity(alloc, 2).ok()?;
+    let passes = Vec::with_capacity(alloc, 2).ok()?;
+    let (pool, shares) = open(alloc, Vec::new(alloc)).ok()?;
+    let mut hands = hands_of(&pool, shares, hands);
+    let kept = exchange(rt, alloc, way, &pool, rows, &mut hands);
+    let passes = passes_of(&pool, hands, passes);
+    let _disk = pool.finish(rt, passes);
+    kept
+}
+
+/// How many packets come to both in a pool of their own, whose disk fails at a call where it says so.
 fn outcome<R: Threads + Wait + Sync>(
     rt: &R,
     alloc: Global,
@@ -168,6 +224,29 @@ fn outcome<R: Threads + Wait + Sync>(
     let passes = passes_of(&pool, hands, passes);
     let _disk = pool.finish(rt, passes);
     Some(counts)
+}
+
+/// The first worker has the numbers 0 and 1 to send, and the second 2, 3 and 4.
+#[test]
+fn what_was_dealt_out_is_received(rt: HostRuntime) -> Result<(), Fail> {
+    let alloc = rt.alloc();
+    let mut threads = Way::Threads {
+        gate: &OpenGate,
+        phase: 0,
+    };
+    let (zero, one) = kept(&rt, alloc, &mut threads, 5).ok_or("refused")?;
+    assert_eq!(rt; zero.as_slice(), [0, 2, 4].as_slice());
+    assert_eq!(rt; one.as_slice(), [1, 3].as_slice());
+    Ok(())
+}
+
+#[test]
+fn what_was_dealt_out_is_received_in_an_order(rt: HostRuntime) -> Result<(), Fail> {
+    let mut order = Way::Order { seed: 3 };
+    let (zero, one) = kept(&rt, rt.alloc(), &mut order, 5).ok_or("refused")?;
+    assert_eq!(rt; zero.as_slice(), [0, 2, 4].as_slice());
+    assert_eq!(rt; one.as_slice(), [1, 3].as_slice());
+    Ok(())
 }
 
 /// Each worker has 5000 numbers of 8 bytes from each, which fill ten blocks.

@@ -8,7 +8,7 @@ ghost use Rattle.mix_stream.specs.Packets.{blocks_in};
 ghost use Rattle.arrivals.specs.Phases.{HasReceived};
 ghost use Rattle.exchange_tests.specs.Boxed.{AreHands, AreBoxes};
 
-mod keep;
+pub(crate) mod keep;
 
 use arrivals::Arrival;
 use block_pool::{BlockRef, Hand, OpenErr, Pass, Permits, Pool};
@@ -158,7 +158,7 @@ fn fill<R: Wait>(
 }
 
 /// One phase: each worker keeps the numbers that it receives.
-fn receive<'p, R: Threads + Wait + Sync>(
+pub(crate) fn receive<'p, R: Threads + Wait + Sync>(
     rt: &R,
     alloc: Global,
     way: &mut Way<'_, OpenGate>,

@@ -13,19 +13,19 @@ use std::sync::Wait;
 
 /// A row too many, or one for which there was no memory.
 #[derive(Clone, Copy, Debug, PartialEq, Eq)]
-pub(super) struct Refused;
+pub(crate) struct Refused;
 
 /// Keeps the numbers of rows of one number, of which it takes only so many.
 #[derive(Drop)]
-pub(super) struct Keep<'p> {
-    pub(super) numbers: Vec<u64>,
-    pub(super) most: usize,
-    pub(super) shut: bool,
+pub(crate) struct Keep<'p> {
+    pub(crate) numbers: Vec<u64>,
+    pub(crate) most: usize,
+    pub(crate) shut: bool,
     of: PhantomData<&'p Pool<MemDisk>>,
 }
 
 impl<'p> Keep<'p> {
-    pub(super) fn new(numbers: Vec<u64>, most: usize) -> Keep<'p>
+    pub(crate) fn new(numbers: Vec<u64>, most: usize) -> Keep<'p>
         ensures { result.shut ≡ false }
     {
         Keep {
