@@ -1,5 +1,4 @@
 pub mod Snoc
 pub mod Grown
 pub mod Roots
-pub mod SameLines
 pub mod Stops

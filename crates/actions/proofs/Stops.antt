@@ -24,7 +24,8 @@ use Rattle.feed_actions.specs.Counting.{CountRefused}
 use Rattle.feed_actions.specs.Acting.{act_refusal, ActRefused}
 use Rattle.actions.specs.Printing.{PrintedAll, PrintedFirst, NotAllPrinted}
 use Rattle.actions.specs.Acting.{IsBegun, IsCutOff, ActStopped, print_refusal}
-use Rattle.actions.proofs.SameLines.{arriving_still, told_still, all_tell, hit_since}
+use Rattle.scatter.proofs.Hands.{all_tell, hit_since}
+use Rattle.scatter.proofs.SameLines.{arriving_still, told_still}
 
 -- printing ------------------------------------------------------------------------------------------------------------------
 

@@ -1,6 +1,7 @@
 -- Lists that grow side by side.
-use Rattle.std.proofs.Common.{◌≡◌, ℕ, suc, zero, List, [], ◌∷◌, ◌++◌, length, take, drop, ap, sym, ◌∙◌, arith, length-append, append_assoc}
+use Rattle.std.proofs.Common.{◌≡◌, ℕ, ◌+◌, ◌<◌, suc, zero, List, [], ◌∷◌, ◌++◌, length, get_or, take, drop, ap, sym, ◌∙◌, arith, length-append, append_assoc}
 use Rattle.std.specs.List.{AllZip}
+use Rattle.std.proofs.lemmas.List.{take_more}
 use Rattle.lent_step.specs.Lending.{AreHeld}
 use Rattle.lent_step.specs.declared.held.Held.{Held}
 
@@ -9,6 +10,13 @@ zip_more R [] [] x y h r = (r, tt)
 zip_more R [] (b ∷ ys) x y h r = absurd h
 zip_more R (a ∷ xs) [] x y h r = absurd h
 zip_more R (a ∷ xs) (b ∷ ys) x y h r = (h.0, zip_more R xs ys x y h.1 r)
+
+-- one more of both lists, the second of which is there as a whole
+pub zip_next : {A B : Type 0} (R : A → B → Type 0) (xs : List A) (ys : List B) (i : ℕ) (x : A) (y : B) → i < length ys → y ≡ get_or ys i y → AllZip R xs (take i ys) → R x y
+    → AllZip R (xs ++ x ∷ []) (take (i + 1) ys)
+zip_next R xs ys i x y below is h r =
+    let one : take (i + 1) ys ≡ take i ys ++ y ∷ [] = take_more ys i y below ∙ ap (λ z. take i ys ++ z ∷ []) (sym is) in
+    rw one (zip_more R xs (take i ys) x y h r)
 
 pub held_more : {H W : Type 0} (ts : List (Held H W)) (ds : List H) (ws : List W) (t : Held H W) (d : H) (w : W) → AreHeld ts ds ws → t.desk ≡ d → t.work ≡ w → t.began.value ≡ d
     → AreHeld (ts ++ t ∷ []) (ds ++ d ∷ []) (ws ++ w ∷ [])

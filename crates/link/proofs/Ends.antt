@@ -1,7 +1,7 @@
 -- Scatters that are finished one after the other.
-use Rattle.std.proofs.Common.{◌≡◌, ◌∙◌, ℕ, ◌+◌, ◌<◌, ◌≤◌, get_or, List, [], ◌∷◌, ◌++◌, length, take, inl, inr, refl, sym, ap, subst, arith, length-append}
+use Rattle.std.proofs.Common.{◌≡◌, ℕ, ◌+◌, ◌≤◌, List, [], ◌∷◌, ◌++◌, length, take, inl, inr, refl, sym, ap, subst, arith, length-append}
 use Rattle.std.specs.List.{AllZip}
-use Rattle.std.proofs.lemmas.List.{take_all, take_more}
+use Rattle.std.proofs.lemmas.List.{take_all}
 use Rattle.row_defs.specs.declared.kind.Kind.{Kind}
 use Rattle.block_pool.specs.Handles.{HandValue, Follows}
 use Rattle.multiplexer.specs.declared.post.Post.{Ghosts}
@@ -60,13 +60,6 @@ ended_more p ss hs ps qs bs s a b so follows (inr end) =
 pub zip_refl : {A : Type 0} (R : A → A → Type 0) → ((x : A) → R x x) → (xs : List A) → AllZip R xs xs
 zip_refl R all [] = tt
 zip_refl R all (x ∷ xs) = (all x, zip_refl R all xs)
-
--- one more of both lists
-pub zip_next : {A B : Type 0} (R : A → B → Type 0) (xs : List A) (ys : List B) (i : ℕ) (x : A) (y : B) → i < length ys → y ≡ get_or ys i y → AllZip R xs (take i ys) → R x y
-    → AllZip R (xs ++ x ∷ []) (take (i + 1) ys)
-zip_next R xs ys i x y below is h r =
-    let one : take (i + 1) ys ≡ take i ys ++ y ∷ [] = take_more ys i y below ∙ ap (λ z. take i ys ++ z ∷ []) (sym is) in
-    rw one (zip_more R xs (take i ys) x y h r)
 
 empty : {A : Type 0} (xs : List A) → length xs ≡ 0 → xs ≡ []
 empty [] none = refl

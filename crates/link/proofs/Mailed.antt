@@ -8,7 +8,7 @@ use Rattle.std.proofs.lemmas.Option.{slice_get-get_or}
 use Rattle.crossbeam_queue.specs.SegTies.{SegId}
 use Rattle.row_defs.specs.declared.kind.Kind.{Kind}
 use Rattle.row_defs.specs.Rows.{Row}
-use Rattle.block_pool.specs.Handles.{PoolName, BlockValue, HandValue, Follows}
+use Rattle.block_pool.specs.Handles.{BlockValue, HandValue, Follows}
 use Rattle.dia_file.specs.Encoding.{encoded}
 use Rattle.multiplexer.specs.declared.packet.Packet.{Packet}
 use Rattle.multiplexer.specs.declared.post.Post.{Ghosts}
@@ -26,19 +26,11 @@ use Rattle.exchange.specs.Serving.{ScatterValue, Stays}
 use Rattle.scatter.specs.Carrying.{SendsOwn, AreMixesOnBytes, bytes_in}
 use Rattle.scatter.specs.Phases.{AllThree}
 use Rattle.scatter.specs.Nets.{IsAsGood}
-use Rattle.scatter.specs.Told.{Tells}
 use Rattle.scatter.proofs.Threes.{zip_long}
+use Rattle.scatter.proofs.Mailing.{zip_at}
 use Rattle.link.specs.Scattering.{IsNewPost, IsFreshScatter, IsSentOff}
 
 -- hands ---------------------------------------------------------------------------------------------------------
-
-pub all_tell : (hands now : List HandValue) → AllZip Follows hands now → All Tells hands → All Tells now
-all_tell [] [] later tell = All-nil Tells
-all_tell [] (b ∷ now) later tell = absurd later
-all_tell (a ∷ hands) [] later tell = absurd later
-all_tell (a ∷ hands) (b ∷ now) later tell =
-    let here : Tells b = subst (λ (pool : PoolName). pool.opening.tells ≡ true) (sym later.0.pool) (All-head Tells a hands tell) in
-    All-cons Tells b now here (all_tell hands now later.1 (All-tail Tells a hands tell))
 
 pub as_good : (hands now : List HandValue) → AllZip Follows hands now → AllZip (λ (a b : HandValue). b.permits ≡ a.permits) hands now → AllZip IsAsGood hands now
 as_good [] [] later same = tt
@@ -134,18 +126,6 @@ module _ {F P : Type 0} (p : Ghosts P) (kinds : List Kind) (workers : ℕ) where
 all_of : {X : Type 0} (P : X → Type 0) (xs : List X) → AllByRecursion P xs → All P xs
 all_of P [] h = All-nil P
 all_of P (x ∷ xs) h = All-cons P x xs h.0 (all_of P xs h.1)
-
-record IsOf {A B : Type 0} (R : A → B → Type 0) (xs : List A) (j : ℕ) (y : B) : Type 0 where
-  of : A
-  at : slice_get xs j ≡ Some of
-  is : R of y
-
-zip_at : {A B : Type 0} (R : A → B → Type 0) (xs : List A) (ys : List B) (j : ℕ) (y : B) → AllZip R xs ys → slice_get ys j ≡ Some y → IsOf R xs j y
-zip_at R [] [] j y zip at = absurd cc
-zip_at R [] (b ∷ ys) j y zip at = absurd zip
-zip_at R (a ∷ xs) [] j y zip at = absurd zip
-zip_at R (a ∷ xs) (b ∷ ys) zero y zip at = let e : b ≡ y = cc in record { of = a; at = refl; is = subst (R a) e zip.0 }
-zip_at R (a ∷ xs) (b ∷ ys) (suc j) y zip at = let it = zip_at R xs ys j y zip.1 at in record { of = it.of; at = it.at; is = it.is }
 
 module _ (p : Ghosts SendValue) (mail_is : (s : SendValue) → p.mail s ≡ s.mail) (sender_is : (s : SendValue) → p.sender s ≡ s.sender) (sent : (s : SendValue) → p.sent s ≡ s.sent) where
   -- the ends of a mail after all was sent are all its ends

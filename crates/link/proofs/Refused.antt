@@ -1,5 +1,5 @@
 -- Why an operand isn't linked.
-use Rattle.std.proofs.Common.{◌≡◌, ℕ, zero, suc, ◌<◌, Bool, List, [], ◌∷◌, ◌++◌, length, Some, inl, inr, refl, sym, ap, subst, ◌∙◌, arith, length-append}
+use Rattle.std.proofs.Common.{◌≡◌, ℕ, ◌<◌, Bool, List, ◌∷◌, ◌++◌, length, Some, inl, inr, sym, ap, subst, ◌∙◌, arith, length-append}
 use Rattle.std.specs.Prelude.{All, ◌⊎◌, slice_get}
 use Rattle.std.specs.List.{AllZip}
 use Rattle.std.proofs.lemmas.List.Concat.{flat_map-append}
@@ -22,14 +22,14 @@ use Rattle.scatter.specs.Carrying.{NotCarried}
 use Rattle.scatter.specs.Lines.{Lines, root_feeds}
 use Rattle.scatter.specs.Sends.{IsCutOff}
 use Rattle.scatter.specs.Phases.{Turn, HasStopped}
-use Rattle.scatter.specs.Told.{Tells, AreTold, SomeHit}
+use Rattle.scatter.specs.Told.{Tells, AreTold}
+use Rattle.scatter.proofs.Hands.{all_tell, hit_since}
 use Rattle.scatter.proofs.Arriving.{hand_in, sink_before, IsToldTurn, all_back, told_turns, at_rank, map_at, some_hit}
 use Rattle.link.specs.Linking.{rows_sent}
 use Rattle.link.specs.Dealers.{TookOfKinds}
 use Rattle.link.specs.declared.link_err.LinkErr.{LinkErr}
 use Rattle.link.specs.Refusals.{LinkRefused, fault_of_phase, fault_of_net}
 use Rattle.link.proofs.Sent.{made_in, made_sent}
-use Rattle.link.proofs.Mailed.{all_tell}
 
 module _ {F P : Type 0} (p : posts.Ghosts P) (post : Answered F) (g : Ghosts (ScatterValue F P) HandValue ScatterErr) (took : (s t : ScatterValue F P) (rows : List Row) → g.took s rows t → TookOfKinds post p s rows t)
     (refused : (s : ScatterValue F P) (a : HandValue) (row : Row) (e : ScatterErr) (u : ScatterValue F P) (b : HandValue) → g.refused s a row e u b → RefusesRow e s.taken a b) where
@@ -83,30 +83,6 @@ module _ {F P : Type 0} (p : posts.Ghosts P) (post : Answered F) (g : Ghosts (Sc
     refused_by e (inr stop) = stopped_by e stop
 
 -- a net's refusal -------------------------------------------------------------------------------------------------------
-
-hit_at : (hands now : List HandValue) (rank : ℕ) (b : HandValue) → AllZip Follows hands now → slice_get now rank ≡ Some b → (a : HandValue) × (slice_get hands rank ≡ Some a) × Follows a b
-hit_at [] [] rank b later at = absurd cc
-hit_at [] (y ∷ now) rank b later at = absurd later
-hit_at (x ∷ hands) [] rank b later at = absurd later
-hit_at (x ∷ hands) (y ∷ now) zero b later at = let same : y ≡ b = cc in (x, refl, subst (λ (z : HandValue). Follows x z) same later.0)
-hit_at (x ∷ hands) (y ∷ now) (suc rank) b later at = hit_at hands now rank b later.1 at
-
--- a hit after hands went on is a hit since before
-hit_since : (hands now end : List HandValue) (count : ℕ) → AllZip Follows hands now → SomeHit now end count → SomeHit hands end count
-hit_since hands now end count later h =
-    let first = hit_at hands now h.rank h.before later h.was in
-    let grown = first.2.grown.hits in
-    let hits = h.hit.hits in
-    record {
-      rank = h.rank;
-      before = first.0;
-      met = h.met;
-      after = h.after;
-      was = first.1;
-      is = h.is;
-      hit = record { hits = omega (arith, grown, hits); rose = h.hit.rose; count_is = h.hit.count_is };
-      later = h.later;
-    }
 
 pub refused_net : (sent : List (List Row)) (told : Type 0) (carries : Bool) (faults faults_now : ℕ) (hands now end : List HandValue) (e : NetErr) → AllZip Follows hands now
     → NotCarried carries faults faults_now now end e → LinkRefused sent told carries faults faults_now hands end (fault_of_net e)

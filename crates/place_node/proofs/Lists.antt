@@ -1,13 +1,11 @@
 -- Sinks, hands and files side by side.
-use Rattle.std.proofs.Common.{◌≡◌, ℕ, ◌+◌, ◌<◌, ◌≤◌, List, [], ◌∷◌, ◌++◌, length, take, map, get_or, Option, Some, None, refl, sym, ap, ◌∙◌, arith}
+use Rattle.std.proofs.Common.{◌≡◌, ℕ, ◌+◌, ◌<◌, ◌≤◌, List, [], ◌∷◌, length, take, map, get_or, Option, Some, None, refl, ap, arith}
 use Rattle.std.specs.Prelude.{All, IsSome}
 use Rattle.std.specs.List.{AllZip, sum_by}
-use Rattle.std.proofs.lemmas.List.{take_more}
 use Rattle.std.proofs.lemmas.List.Sums.{sum_by-cons, sum_by_more_le}
 use Rattle.std.proofs.lemmas.List.Elements.{All-nil, All-cons, All-head, All-tail}
 use Rattle.block_pool.specs.Handles.{HandValue, Follows}
 use Rattle.dia_file.specs.Files.{FileValue}
-use Rattle.lent_step.proofs.Lists.{zip_more}
 use Rattle.file_sink.specs.Sinks.{SinkValue, KeepsFile, keeps_none}
 use Rattle.scatter.specs.Phases.{AllThree}
 use Rattle.scatter.specs.Clearing.{IsPartIn}
@@ -79,13 +77,6 @@ many_at parts i room most part below is so_far many =
 pub keep_refl : (ss : List SinkValue) → AllZip KeepsFile ss ss
 keep_refl [] = tt
 keep_refl (s ∷ ss) = (keeps_none s, keep_refl ss)
-
--- one more of the second list's elements
-pub zip_next : {A B : Type 0} (R : A → B → Type 0) (xs : List A) (ys : List B) (i : ℕ) (x : A) (y : B) → i < length ys → y ≡ get_or ys i y → AllZip R xs (take i ys) → R x y
-    → AllZip R (xs ++ x ∷ []) (take (i + 1) ys)
-zip_next R xs ys i x y below is h r =
-    let one : take (i + 1) ys ≡ take i ys ++ y ∷ [] = take_more ys i y below ∙ ap (λ z. take i ys ++ z ∷ []) (sym is) in
-    rw one (zip_more R xs (take i ys) x y h r)
 
 pub all_some : (files : List FileValue) → All IsSome (map (λ (f : FileValue). Some f) files)
 all_some [] = All-nil IsSome

@@ -1,12 +1,16 @@
 -- Hands before and after, side by side.
-use Rattle.std.proofs.Common.{◌≡◌, List, [], ◌∷◌, suc, length, Option, refl, ap, ◌∙◌}
+use Rattle.std.proofs.Common.{◌≡◌, ℕ, List, [], ◌∷◌, zero, suc, length, Option, Some, refl, ap, subst, ◌∙◌}
+use Rattle.std.specs.Prelude.{All, slice_get}
 use Rattle.std.specs.List.{AllZip}
-use Rattle.block_pool.specs.Handles.{HandValue, Follows}
+use Rattle.std.proofs.lemmas.List.Elements.{All-nil, All-cons, All-head, All-tail}
+use Rattle.block_pool.specs.Handles.{PoolName, HandValue, Follows}
 use Rattle.block_pool.specs.Follows.{follows_refl, follows_trans}
 use Rattle.dia_file.specs.Files.{FileValue}
 use Rattle.scatter.specs.Stocks.{IsPartOf}
 use Rattle.scatter.specs.Phases.{AllThree, pools_of}
 use Rattle.scatter.specs.Clearing.{IsPartIn, IsCleared}
+use Rattle.scatter.specs.SendLaws.{hit_from}
+use Rattle.scatter.specs.Told.{Tells, SomeHit}
 
 pub follow_refl : (hands : List HandValue) → AllZip Follows hands hands
 follow_refl [] = tt
@@ -55,3 +59,34 @@ pub cleared_permits : (parts : List (Option FileValue)) (hands now : List HandVa
 cleared_permits [] [] [] h = tt
 cleared_permits (p ∷ parts) (a ∷ hands) (b ∷ now) h = (h.0.permits, cleared_permits parts hands now h.1)
 cleared_permits _ _ _ h = absurd h
+
+-- what tells still does
+pub all_tell : (hs bs : List HandValue) → AllZip Follows hs bs → All Tells hs → All Tells bs
+all_tell [] [] all tells = All-nil Tells
+all_tell [] (b ∷ bs) all tells = absurd all
+all_tell (a ∷ hs) [] all tells = absurd all
+all_tell (a ∷ hs) (b ∷ bs) all tells =
+    All-cons Tells b bs (ap (λ (pool : PoolName). pool.opening.tells) all.0.pool ∙ All-head Tells a hs tells) (all_tell hs bs all.1 (All-tail Tells a hs tells))
+
+-- the hand of a rank before
+hand_before : (hs bs : List HandValue) (k : ℕ) (b : HandValue) → AllZip Follows hs bs → slice_get bs k ≡ Some b → (a : HandValue) × (slice_get hs k ≡ Some a) × Follows a b
+hand_before [] [] k b all at = cc
+hand_before [] (c ∷ bs) k b all at = absurd all
+hand_before (a ∷ hs) [] k b all at = absurd all
+hand_before (a ∷ hs) (c ∷ bs) zero b all at = let same : c ≡ b = cc in (a, refl, subst (λ d. Follows a d) same all.0)
+hand_before (a ∷ hs) (c ∷ bs) (suc k) b all at = hand_before hs bs k b all.1 at
+
+-- a hit after hands went on is a hit since before
+pub hit_since : (hs bs cs : List HandValue) (count : ℕ) → AllZip Follows hs bs → SomeHit bs cs count → SomeHit hs cs count
+hit_since hs bs cs count all h =
+    let it = hand_before hs bs h.rank h.before all h.was in
+    record {
+      rank = h.rank;
+      before = it.0;
+      met = h.met;
+      after = h.after;
+      was = it.1;
+      is = h.is;
+      hit = hit_from it.0 h.before h.met count it.2 h.hit;
+      later = h.later;
+    }

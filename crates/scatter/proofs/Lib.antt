@@ -8,3 +8,4 @@ pub mod Turns
 pub mod Arriving
 pub mod Hands
 pub mod Mailing
+pub mod SameLines

@@ -5,7 +5,7 @@ use Rattle.std.specs.List.{AllZip}
 use Rattle.std.specs.declared.alloc.Global.{Global}
 use Rattle.std.proofs.lemmas.List.Elements.{All-nil, All-cons, All-head, All-tail}
 use Rattle.std.proofs.lemmas.Option.{slice_get-get_or}
-use Rattle.block_pool.specs.Handles.{PoolName, BlockValue, HandValue, AreOfPool, Follows}
+use Rattle.block_pool.specs.Handles.{PoolName, BlockValue, HandValue, AreOfPool}
 use Rattle.multiplexer.specs.Mixes.{IsMix, of_sender, numbered}
 use Rattle.multiplexer.specs.Sending.{SendValue, IsSentFrom}
 use Rattle.multiplexer.specs.Receiving.{RecvValue}
@@ -134,12 +134,13 @@ can_carry hands sends boxes zip mixes = λ j d lt.
 
 -- What a net brings ---------------------------------------------------------------------------------------------
 
-record IsOf {A B : Type 0} (R : A → B → Type 0) (xs : List A) (j : ℕ) (y : B) : Type 0 where
-  of : A
-  at : slice_get xs j ≡ Some of
-  is : R of y
+-- an element of the first list to which one of the second is related
+pub record IsOf {A B : Type 0} (R : A → B → Type 0) (xs : List A) (j : ℕ) (y : B) : Type 0 where
+  pub of : A
+  pub at : slice_get xs j ≡ Some of
+  pub is : R of y
 
-zip_at : {A B : Type 0} (R : A → B → Type 0) (xs : List A) (ys : List B) (j : ℕ) (y : B) → AllZip R xs ys → slice_get ys j ≡ Some y → IsOf R xs j y
+pub zip_at : {A B : Type 0} (R : A → B → Type 0) (xs : List A) (ys : List B) (j : ℕ) (y : B) → AllZip R xs ys → slice_get ys j ≡ Some y → IsOf R xs j y
 zip_at R [] [] j y zip at = absurd cc
 zip_at R [] (b ∷ ys) j y zip at = absurd zip
 zip_at R (a ∷ xs) [] j y zip at = absurd zip

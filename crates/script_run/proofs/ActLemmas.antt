@@ -21,7 +21,7 @@ use Rattle.scatter.specs.Nets.{AreOfOnePool}
 use Rattle.scatter.specs.Phases.{IsUsed, pools_of}
 use Rattle.scatter.specs.Told.{AreTold, arriving}
 use Rattle.actions.specs.Acting.{IsCutOff, ActStopped}
-use Rattle.actions.proofs.SameLines.{same_pools}
+use Rattle.scatter.proofs.SameLines.{same_pools}
 use Rattle.stage_laws.specs.Standing.{IsActing, Stops}
 use Rattle.stage_laws.proofs.ItemLemmas.{item_is_cut_off}
 use Rattle.stage_laws.proofs.ActionLemmas.{action_keeps, action_is_done, action_is_cut_off, action_has_too_many}

@@ -17,7 +17,7 @@ use Rattle.scatter.specs.Phases.{pools_of}
 use Rattle.scatter.specs.Told.{HasPermit, SomeHit}
 use Rattle.scatter.proofs.Hands.{follow_refl, permits_refl}
 use Rattle.place_node.specs.Placing.{HasTwoPermits}
-use Rattle.actions.proofs.SameLines.{all_tell, hit_since}
+use Rattle.scatter.proofs.Hands.{all_tell, hit_since}
 use Rattle.script_run.specs.declared.run_err.RunErr.{RunErr}
 use Rattle.script_run.specs.declared.run_err.RunErr.TheVariants as errors
 use Rattle.script_run.specs.Errors.{TellsStop}

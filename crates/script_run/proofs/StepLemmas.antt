@@ -20,7 +20,7 @@ use Rattle.scatter.specs.Lines.{LineValue, Lines, Sets, HasKinds}
 use Rattle.scatter.specs.Phases.{pools_of}
 use Rattle.scatter.specs.Stocks.{AreInPools}
 use Rattle.scatter.proofs.Rooted.{put_value}
-use Rattle.actions.proofs.SameLines.{same_pools}
+use Rattle.scatter.proofs.SameLines.{same_pools}
 use Rattle.stage_laws.proofs.ItemLemmas.{item_is_cut_off, input_fails, line_is_kept, line_keeps}
 use Rattle.script_run.specs.declared.run_err.RunErr.{RunErr}
 use Rattle.script_run.specs.declared.run_err.RunErr.TheVariants as errors

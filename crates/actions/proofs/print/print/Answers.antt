@@ -9,7 +9,7 @@ use Rattle.scatter.specs.Phases.{pools_of}
 use Rattle.dia_edge.proofs.Results.{IfErr-map, OnOk-map}
 use Rattle.feed_print.specs.Printing.{texts_of_rows}
 use Rattle.actions.specs.Acting.{ActStopped}
-use Rattle.actions.proofs.SameLines.{each_line, arriving_still, pools_still, same_pools, still_permits, told_still, told_back}
+use Rattle.scatter.proofs.SameLines.{each_line, arriving_still, pools_still, same_pools, still_permits, told_still, told_back}
 use Rattle.actions.proofs.Stops.{stops_since}
 use Rattle.actions.proofs.print.print.Goals as goal
 use Rattle.scatter.proofs.Hands.{follow_trans, permits_trans}

@@ -2,7 +2,7 @@ use Rattle.std.proofs.Common.{rules, ◌∙◌, ap, arith, sym}
 use Rattle.std.proofs.lemmas.Grind.{common_steps}
 use Rattle.multiplexer.specs.Receiving.{RecvValue}
 use Rattle.scatter.specs.Carrying.{IsFrontOf}
-use Rattle.link.proofs.Ends.{zip_next}
+use Rattle.lent_step.proofs.Lists.{zip_next}
 use Rattle.link.proofs.settling.no_fronts.Goals as goal
 
 pub loop-recv-preserved : goal.loop-recv-preserved

@@ -2,7 +2,7 @@ use Rattle.std.proofs.Common.{rules, arith}
 use Rattle.std.proofs.lemmas.Grind.{common_steps}
 use Rattle.dia_item.specs.KindList.{kind_list}
 use Rattle.place_node.specs.Ending.{IsFreshSink}
-use Rattle.place_node.proofs.Lists.{zip_next}
+use Rattle.lent_step.proofs.Lists.{zip_next}
 use Rattle.place_node.proofs.caching.sinks_for.Goals as goal
 
 pub loop-hand-preserved : goal.loop-hand-preserved

@@ -11,7 +11,7 @@ use Rattle.lop_chain.specs.Operands.{operand_in}
 use Rattle.scatter.specs.Lines.{HasKinds}
 use Rattle.scatter.specs.Phases.{pools_of}
 use Rattle.scatter.specs.Told.{AreTold, arriving}
-use Rattle.actions.proofs.SameLines.{same_pools}
+use Rattle.scatter.proofs.SameLines.{same_pools}
 use Rattle.script_run.specs.declared.run_err.RunErr.{RunErr}
 use Rattle.script_run.specs.declared.run_err.RunErr.TheVariants as errors
 use Rattle.script_run.specs.Held.{held_of}

@@ -6,7 +6,7 @@ use Rattle.script_defs.specs.Work.{do_line}
 use Rattle.block_pool.specs.Handles.{PoolName}
 use Rattle.dia_file.specs.Files.{IsFileOf}
 use Rattle.scatter.specs.Lines.{HasKinds}
-use Rattle.actions.proofs.SameLines.{same_pools}
+use Rattle.scatter.proofs.SameLines.{same_pools}
 use Rattle.script_run.specs.Held.{held_of, told_in}
 use Rattle.script_run.proofs.PlanLemmas.{held_then}
 use Rattle.script_run.proofs.StepLemmas.{hands_ready, input_goes_on, input_stops, memory_stops, follows_put}

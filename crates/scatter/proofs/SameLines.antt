@@ -1,6 +1,6 @@
 -- Lines and hands after a phase that left the lines as they were.
-use Rattle.std.proofs.Common.{◌≡◌, ℕ, zero, suc, Bool, true, false, List, [], ◌∷◌, Some, inl, inr, refl, sym, ap, subst, ◌∙◌}
-use Rattle.std.specs.Prelude.{All, slice_get}
+use Rattle.std.proofs.Common.{◌≡◌, ℕ, Bool, true, false, List, [], ◌∷◌, inl, inr, refl, sym, ap, ◌∙◌}
+use Rattle.std.specs.Prelude.{All}
 use Rattle.std.specs.List.{AllZip}
 use Rattle.std.proofs.lemmas.List.Elements.{All-nil, All-cons, All-head, All-tail}
 use Rattle.row_defs.specs.LocalOps.{LocalOp}
@@ -9,9 +9,9 @@ use Rattle.block_pool.specs.Handles.{PoolName, HandValue, Follows}
 use Rattle.scatter.specs.Lines.{Lines, HasRoot, root_kinds, root_rows}
 use Rattle.lop_chain.specs.Ops.{rows_from}
 use Rattle.scatter.specs.Stocks.{AreInPools}
-use Rattle.scatter.specs.SendLaws.{hit_from}
 use Rattle.scatter.specs.Phases.{IsUsed, pools_of}
-use Rattle.scatter.specs.Told.{Tells, AreTold, HasPermit, SomeHit, arriving}
+use Rattle.scatter.specs.Told.{Tells, AreTold, HasPermit, arriving}
+use Rattle.scatter.proofs.Hands.{all_tell}
 
 abbrev SamePermits : HandValue → HandValue → Type 0
 SamePermits a b = b.permits ≡ a.permits
@@ -68,38 +68,9 @@ still_permits (a ∷ hs) [] all permits = absurd all
 still_permits (a ∷ hs) (b ∷ bs) all permits =
     All-cons HasPermit b bs (rw all.0 (All-head HasPermit a hs permits)) (still_permits hs bs all.1 (All-tail HasPermit a hs permits))
 
-pub all_tell : (hs bs : List HandValue) → AllZip Follows hs bs → All Tells hs → All Tells bs
-all_tell [] [] all tells = All-nil Tells
-all_tell [] (b ∷ bs) all tells = absurd all
-all_tell (a ∷ hs) [] all tells = absurd all
-all_tell (a ∷ hs) (b ∷ bs) all tells =
-    All-cons Tells b bs (ap (λ (pool : PoolName). pool.opening.tells) all.0.pool ∙ All-head Tells a hs tells) (all_tell hs bs all.1 (All-tail Tells a hs tells))
-
 pub told_still : (root : Root) (hs bs : List HandValue) → AllZip Follows hs bs → AreTold root hs → AreTold root bs
 told_still (stored_root n) hs bs all told = all_tell hs bs all told
 told_still (count_root n rows) hs bs all told = tt
-
--- the hand of a rank before
-hand_before : (hs bs : List HandValue) (k : ℕ) (b : HandValue) → AllZip Follows hs bs → slice_get bs k ≡ Some b → (a : HandValue) × (slice_get hs k ≡ Some a) × Follows a b
-hand_before [] [] k b all at = cc
-hand_before [] (c ∷ bs) k b all at = absurd all
-hand_before (a ∷ hs) [] k b all at = absurd all
-hand_before (a ∷ hs) (c ∷ bs) zero b all at = let same : c ≡ b = cc in (a, refl, subst (λ d. Follows a d) same all.0)
-hand_before (a ∷ hs) (c ∷ bs) (suc k) b all at = hand_before hs bs k b all.1 at
-
-pub hit_since : (hs bs cs : List HandValue) (count : ℕ) → AllZip Follows hs bs → SomeHit bs cs count → SomeHit hs cs count
-hit_since hs bs cs count all h =
-    let it = hand_before hs bs h.rank h.before all h.was in
-    record {
-      rank = h.rank;
-      before = it.0;
-      met = h.met;
-      after = h.after;
-      was = it.1;
-      is = h.is;
-      hit = hit_from it.0 h.before h.met count it.2 h.hit;
-      later = h.later;
-    }
 
 told_before : (hs bs : List HandValue) → AllZip Follows hs bs → All Tells bs → All Tells hs
 told_before [] [] all tells = All-nil Tells
