@@ -26,6 +26,7 @@ use Rattle.exchange.specs.Serving.{ScatterValue, Stays}
 use Rattle.scatter.specs.Carrying.{SendsOwn, AreMixesOnBytes, bytes_in}
 use Rattle.scatter.specs.Phases.{AllThree}
 use Rattle.scatter.specs.Nets.{IsAsGood}
+use Rattle.scatter.specs.Told.{Tells}
 use Rattle.scatter.proofs.Threes.{zip_long}
 use Rattle.scatter.proofs.Mailing.{zip_at}
 use Rattle.link.specs.Scattering.{IsNewPost, IsFreshScatter, IsSentOff}
