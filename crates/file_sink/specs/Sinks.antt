@@ -1,6 +1,7 @@
 -- What a sink has written.
-use Rattle.std.specs.Prelude.{◌≡◌, ◌+◌, ◌<◌, Bool, false, List, [], ◌++◌, length, refl, ⊤}
+use Rattle.std.specs.Prelude.{◌≡◌, ◌+◌, ◌<◌, ◌≤◌, Bool, false, List, [], ◌++◌, length, refl, ⊤}
 use Rattle.std.proofs.Common.{sym, ap, ◌∙◌, append-nil, append_assoc, arith}
+use Rattle.row_defs.specs.Limits.{most_rows}
 use Rattle.row_defs.specs.Rows.{Row}
 use Rattle.block_pool.specs.Handles.{PoolName, HandValue, HasHit, Follows}
 use Rattle.dia_file.specs.Writers.{WriterValue, IsWriterOf, frames_of}
@@ -13,10 +14,12 @@ pub record SinkValue : Type 0 where
   pub writer : WriterValue
   pub is_shut : Bool
 
--- what was written is of its pool; where a block wasn't had, it takes no more
+-- what was written is of its pool, and no more than may be; where a block wasn't had, it takes no more
 pub record IsSink (pool : PoolName) (w : WriterValue) (shut : Bool) : Type 0 where
   pub own : IsWriterOf pool w
   pub whole : shut ≡ false → w.is_broken ≡ false
+  pub few : length w.rows ≤ w.limit
+  pub most : w.limit ≤ most_rows
 
 -- these rows were written behind those that were there
 pub record Wrote (w : WriterValue) (rows : List Row) (v : WriterValue) : Type 0 where

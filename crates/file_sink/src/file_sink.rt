@@ -59,6 +59,15 @@ impl<'p, D: Disk> FileSink<'p, D> {
         }
     }
 
+    // How many rows there can be, which is known of every sink.
+    #[inline]
+    pub(crate) fn most_rows(&self)
+        ensures few { length self.now.writer.rows ≤ self.now.writer.limit }
+        ensures most { self.now.writer.limit ≤ most_rows }
+    {
+        let _shut = self.shut;
+    }
+
     /// The file of the rows taken, in order. Without memory for its last block they are freed.
     pub fn finish<R: Wait>(self, rt: &R, hand: &mut Hand<'p, D>) -> Result<File, NoMemory>
         requires is_open { self.is_shut ≡ false }
