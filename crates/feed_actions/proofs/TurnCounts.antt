@@ -16,10 +16,10 @@ use Rattle.scatter.specs.Phases.{Turn, TookWhole, IsServed}
 use Rattle.scatter.proofs.Arriving.{sink_after, IsToldTurn, arrived, arrived_at, whole_rows}
 
 module _ {S R : Type 0} (g : Ghosts S HandValue R) (counted : S → ℕ) (counts : (s t : S) (rows : List Row) → g.took s rows t → counted t ≡ counted s + length rows) where
-  abbrev IsNone : Turn S → Type 0
+  abbrev pub IsNone : Turn S → Type 0
   IsNone t = counted t.sink ≡ 0
 
-  count_one : (t : Turn S) → TookWhole g t → IsToldTurn t → IsNone t → counted t.took ≡ length (rows_from t.feed.ops t.feed.left)
+  pub count_one : (t : Turn S) → TookWhole g t → IsToldTurn t → IsNone t → counted t.took ≡ length (rows_from t.feed.ops t.feed.left)
   count_one t w told none =
       let more = counts t.sink t.took (rows_from t.feed.ops w.sent.rows) w.sent.took in
       let rows = whole_rows g t w told in

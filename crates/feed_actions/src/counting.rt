@@ -29,7 +29,10 @@ use std::thread::Threads;
 use worker_step::{MOST_TASKS, Way};
 
 /// So many counters, of no rows yet.
-fn counters_for<'p, D: Disk>(alloc: Global, count: usize) -> Result<Vec<Counter<'p, D>>, NoMemory>
+pub fn counters_for<'p, D: Disk>(
+    alloc: Global,
+    count: usize,
+) -> Result<Vec<Counter<'p, D>>, NoMemory>
     ensures len { IfOk result (λ counters. vec_len counters ≡ count) }
     ensures fresh { IfOk result (λ counters. All IsFreshCounter counters.items) }
 {
@@ -41,7 +44,7 @@ fn counters_for<'p, D: Disk>(alloc: Global, count: usize) -> Result<Vec<Counter<
 }
 
 /// How many rows they counted together.
-fn total<D: Disk>(counters: &[Counter<'_, D>]) -> u64
+pub fn counted_in_all<D: Disk>(counters: &[Counter<'_, D>]) -> u64
     requires { length counters.now ≤ MOST_TASKS }
     ensures { result ≡ sum_by rows_counted counters.now }
 {
@@ -52,8 +55,9 @@ fn total<D: Disk>(counters: &[Counter<'_, D>]) -> u64
     rows
 }
 
-/// One phase: each worker counts what is made of the rows of its feed.
-fn count_phase<'p, R: Threads + Wait + Sync, G: Gate + Sync, D: Disk + Send + Sync, X: Net>(
+/// One phase: each worker counts what is made of the rows of its feed. The refusals are those of `rows_arriving`, and the lines
+/// are afterwards as there.
+pub fn count_phase<'p, R: Threads + Wait + Sync, G: Gate + Sync, D: Disk + Send + Sync, X: Net>(
     rt: &R,
     alloc: Global,
     way: &mut Way<'_, G>,
@@ -131,7 +135,7 @@ fn count_all<'p, R: Threads + Wait + Sync, G: Gate + Sync, D: Disk + Send + Sync
         Err(NoMemory) => return Err(FeedErr::NoMemory),
     };
     count_phase(rt, alloc, way, stock, operand, last, hands, &mut counters)?;
-    match few(total(counters.as_slice())) {
+    match few(counted_in_all(counters.as_slice())) {
         Ok(rows) => Ok(rows),
         Err(refusal) => Err(FeedErr::Sink(refusal)),
     }

@@ -35,7 +35,7 @@ returns-in-Ok-few-clause-count g c = λ told.
     let none : All (λ s. rows_counted s ≡ 0) sinks = λ k d below. (c.in-Ok.ensures.fresh k d below).0 in
     let all = counted_all _ rows_counted (λ s t rows p. p) (λ s a row e u b p. p) (lines_of stock) stock.workers (root_in operand.root) c.args.last (ops_in operand.chain.items)
     sinks c.args.hands.now.items c.count_phase.new.counters.items c.count_phase.new.hands.items c.joined.ensures none c.in_ok-count_phase.ensures.sent told in
-    c.in-Ok-few.ensures.ok.0 ∙ c.total.ensures ∙ ap (sum_by rows_counted) c.as_slice.ensures.value ∙ all
+    c.in-Ok-few.ensures.ok.0 ∙ c.counted_in_all.ensures ∙ ap (sum_by rows_counted) c.as_slice.ensures.value ∙ all
 
 pub returns-in-Ok-few-clause-permits : goal.returns-in-Ok-few-clause-permits
 returns-in-Ok-few-clause-permits g c =
@@ -50,6 +50,6 @@ returns-clause-refused g c = λ told.
     let none : All (λ s. rows_counted s ≡ 0) sinks = λ k d below. (c.in-Ok.ensures.fresh k d below).0 in
     let all = counted_all _ rows_counted (λ s t rows p. p) (λ s a row e u b p. p) (lines_of stock) stock.workers (root_in operand.root) c.args.last (ops_in operand.chain.items)
     sinks c.args.hands.now.items c.count_phase.new.counters.items c.count_phase.new.hands.items c.joined.ensures none c.in_ok-count_phase.ensures.sent told in
-    let n : c.total.result ≡ length (arriving (lines_of stock) (root_in operand.root) (ops_in operand.chain.items)) = c.total.ensures ∙ ap (sum_by rows_counted) c.as_slice.ensures.value ∙ all in
-    let many : most_rows < c.total.result = search rules in
+    let n : c.counted_in_all.result ≡ length (arriving (lines_of stock) (root_in operand.root) (ops_in operand.chain.items)) = c.counted_in_all.ensures ∙ ap (sum_by rows_counted) c.as_slice.ensures.value ∙ all in
+    let many : most_rows < c.counted_in_all.result = search rules in
     subst (λ m. most_rows < m) n many
