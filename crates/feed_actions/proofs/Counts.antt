@@ -1,5 +1,5 @@
 -- What counters come to.
-use Rattle.std.proofs.Common.{◌≡◌, ℕ, ◌+◌, ◌<◌, false, List, [], ◌∷◌, map, length, inl, inr, refl, sym, ap, subst, ◌∙◌, arith}
+use Rattle.std.proofs.Common.{◌≡◌, ℕ, ◌+◌, ◌<◌, false, List, [], ◌∷◌, map, length, inl, inr, sym, ap, subst, ◌∙◌, arith}
 use Rattle.std.specs.Prelude.{All, ◌⊎◌}
 use Rattle.std.specs.List.{AllZip, flat_map, sum_by}
 use Rattle.std.proofs.lemmas.List.Elements.{All-head, All-tail}
@@ -7,8 +7,7 @@ use Rattle.row_defs.specs.Limits.{most_rows}
 use Rattle.row_defs.specs.Rows.{Row}
 use Rattle.row_defs.specs.LocalOps.{LocalOp}
 use Rattle.row_defs.specs.Operands.{Root}
-use Rattle.block_pool.specs.Handles.{HandValue, Follows}
-use Rattle.block_pool.specs.Follows.{follows_refl}
+use Rattle.block_pool.specs.Handles.{HandValue}
 use Rattle.lop_chain.specs.Rows.{Kinds}
 use Rattle.lop_chain.specs.declared.sink.RowSink.{Ghosts}
 use Rattle.scatter.specs.declared.feed_err.FeedErr.{FeedErr}
