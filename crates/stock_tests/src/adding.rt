@@ -20,7 +20,10 @@ use std::thread::Threads;
 use worker_step::Way;
 
 /// A pool for these workers, and their shares.
-fn open(alloc: Global, workers: u32) -> Result<(Pool<MemDisk>, Vec<(Pass, Permits)>), OpenErr>
+pub(crate) fn open(
+    alloc: Global,
+    workers: u32,
+) -> Result<(Pool<MemDisk>, Vec<(Pass, Permits)>), OpenErr>
     requires { (1 ≤ workers) × (workers ≤ 16) }
     ensures ready { IfOk result (λ opened. All (IsReady (new_pool opened.0 448 4096)) opened.1.items) }
     ensures len { IfOk result (λ opened. vec_len opened.1 ≡ workers) }
@@ -33,7 +36,7 @@ fn open(alloc: Global, workers: u32) -> Result<(Pool<MemDisk>, Vec<(Pass, Permit
 }
 
 /// Their hands.
-fn hands_of<'p>(
+pub(crate) fn hands_of<'p>(
     pool: &'p Pool<MemDisk>,
     shares: Vec<(Pass, Permits)>,
     mut hands: Vec<Hand<'p, MemDisk>>,
@@ -50,7 +53,7 @@ fn hands_of<'p>(
 }
 
 /// The hands' passes.
-fn passes_of(
+pub(crate) fn passes_of(
     pool: &Pool<MemDisk>,
     hands: Vec<Hand<'_, MemDisk>>,
     mut passes: Vec<Pass>,
@@ -69,7 +72,7 @@ fn passes_of(
 }
 
 /// The numbers below 1,000, and of each odd one the number and the next.
-fn odd_and_next(alloc: Global) -> Result<Operand, NoMemory>
+pub(crate) fn odd_and_next(alloc: Global) -> Result<Operand, NoMemory>
     ensures root { IfOk result (λ operand. operand.root ≡ Root.Count 1 1000) }
     ensures sound { IfOk result (λ operand. AreSoundOps (Int ∷ []) (ops_in operand.chain.items) (Int ∷ [])) }
 {

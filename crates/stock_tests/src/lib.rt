@@ -8,6 +8,8 @@ mod acting;
 #[cfg(test)]
 mod adding;
 #[cfg(test)]
+mod counting;
+#[cfg(test)]
 mod hands;
 #[cfg(test)]
 mod placing;
