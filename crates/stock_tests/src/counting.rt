@@ -40,10 +40,7 @@ fn count<'p, R: Threads + Wait + Sync>(
     let Ok(mut stock) = Stock::new(alloc, Home, workers) else {
         return None;
     };
-    match rows_by_rank(rt, alloc, way, &mut stock, operand, hands) {
-        Ok(counts) => Some(counts),
-        Err(_) => None,
-    }
+    rows_by_rank(rt, alloc, way, &mut stock, operand, hands).ok()
 }
 
 /// The same, in a pool of its own.
