@@ -11,7 +11,7 @@ use Rattle.exchange.specs.Deals.{AreRouted}
 use Rattle.dealt_shares.specs.Dealings.{Dealing, dealt, AreOwned}
 use Rattle.dealt_shares.proofs.Owning.{shares_come}
 use Rattle.file_sink.specs.Numbered.{numbered, numbered-append}
-use Rattle.place_shares.specs.Places.{begins_at, AreDealtByPosition, AreWritten, plain, joined}
+use Rattle.place_shares.specs.Places.{begins_at, AreDealtByPosition, AreWritten, plain, joined, rows_of_senders}
 
 -- what is written of rows is written of their parts, one behind the other
 module _ (written : ℕ → List Row → List Row) (adds : (n : ℕ) (xs ys : List Row) → written n (xs ++ ys) ≡ written n xs ++ written (n + length xs) ys)
@@ -88,7 +88,7 @@ owned_from total workers start (s ∷ senders) each =
     let At : Dealing → ℕ → Type 0 = λ s m. AreRouted (λ row n worker. HasPlace total workers worker (m + n)) 0 s.rows s.to in
     let here : start + 0 ≡ start = omega arith in
     let rest : (k : ℕ) (r : Dealing) → slice_get senders k ≡ Some r → At r (start + length s.rows + begins_at senders k) = λ k r found.
-    let front : begins_at (s ∷ senders) (suc k) ≡ length s.rows + begins_at senders k = sum_by-cons (λ n. n) (length s.rows) (take k (map (λ (s : Dealing). length s.rows) senders)) in
+    let front : begins_at (s ∷ senders) (suc k) ≡ length s.rows + begins_at senders k = sum_by-cons (λ n. n) (length s.rows) (take k (map length (rows_of_senders senders))) in
     let same : start + begins_at (s ∷ senders) (suc k) ≡ start + length s.rows + begins_at senders k = omega (arith, front) in
     subst (At r) same (each (suc k) r found) in
     (subst (At s) here (each 0 s refl), owned_from total workers (start + length s.rows) senders rest)
@@ -99,3 +99,8 @@ are_owned total workers senders each =
     let At : ℕ → Type 0 = λ m. AreRouted (λ row n worker. HasPlace total workers worker (m + n)) 0 s.rows s.to in
     let same : begins_at senders k ≡ 0 + begins_at senders k = omega arith in
     subst At same (each k s found))
+
+-- the rows of all senders are their lists, joined
+pub dealt_joined : (senders : List Dealing) → joined (rows_of_senders senders) ≡ dealt senders
+dealt_joined [] = refl
+dealt_joined (s ∷ senders) = ap (λ (rows : List Row). s.rows ++ rows) (dealt_joined senders)

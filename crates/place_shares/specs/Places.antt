@@ -7,9 +7,12 @@ use Rattle.exchange.specs.Deals.{AreRouted}
 use Rattle.dealt_shares.specs.Dealings.{Dealing, dealt, coming_to, AreOwned}
 use Rattle.file_sink.specs.Numbered.{numbered}
 
+abbrev pub rows_of_senders : List Dealing → List (List Row)
+rows_of_senders senders = map (λ (s : Dealing). s.rows) senders
+
 -- at which position a sender's rows begin: behind those of all senders before it
 abbrev pub begins_at : List Dealing → ℕ → ℕ
-begins_at senders k = sum (take k (map (λ (s : Dealing). length s.rows) senders))
+begins_at senders k = sum (take k (map length (rows_of_senders senders)))
 
 -- each sender's rows went to the workers whose shares of so many positions have theirs
 abbrev pub AreDealtByPosition : ℕ → ℕ → List Dealing → Type 0
