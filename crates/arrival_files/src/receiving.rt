@@ -46,9 +46,9 @@ fn receive_phase<'p, R: Threads + Wait + Sync, G: Gate + Sync, D: Disk + Send + 
     requires permits { All HasTwoPermits hands.old.items }
     requires fresh { AllZip (IsFreshSink (kind_list kinds)) sinks.old.items hands.old.items }
 
-    ensures received { OnOk result (HasReceived ⟦<FileSink<'p, D> as RowSink>⟧ (kind_list kinds) boxes.entry.items sinks.old.items hands.old.items sinks.new.items hands.new.items) }
+    ensures received { OnOk result (HasReceived ⟦<FileSink<'p, D> as RowSink>⟧ (kind_list kinds) boxes.items sinks.old.items hands.old.items sinks.new.items hands.new.items) }
     ensures stopped { IfErr result (λ e. (e ≡ FeedErr.NoMemory)
-        ⊎ HasStopped ⟦<FileSink<'p, D> as RowSink>⟧ (kind_list kinds) boxes.entry.items sinks.old.items hands.old.items sinks.new.items hands.new.items e) }
+        ⊎ HasStopped ⟦<FileSink<'p, D> as RowSink>⟧ (kind_list kinds) boxes.items sinks.old.items hands.old.items sinks.new.items hands.new.items e) }
 
     // On every answer.
     ensures stays { AllZip KeepsFile sinks.old.items sinks.new.items }
@@ -84,10 +84,10 @@ pub fn received<'p, R: Threads + Wait + Sync, G: Gate + Sync, D: Disk + Send + S
 
     ensures own { IfOk result (λ files. AllZip IsFileOf (pools_of hands.old.items) files.items) }
     ensures kinds { IfOk result (λ files. All (HasKinds (kind_list kinds)) files.items) }
-    ensures rows { IfOk result (λ files. AllThree (HasRowsOf (kind_list kinds)) hands.old.items boxes.entry.items files.items) }
+    ensures rows { IfOk result (λ files. AllThree (HasRowsOf (kind_list kinds)) hands.old.items boxes.items files.items) }
     ensures few { IfOk result (λ files. length (rows_of_files files.items) ≤ most_rows) }
     ensures permits { OnOk result (AllZip (λ (a b : HandValue). b.permits ≡ a.permits) hands.old.items hands.new.items) }
-    ensures refused { IfErr result (ReceiveRefused (kind_list kinds) boxes.entry.items hands.old.items hands.new.items) }
+    ensures refused { IfErr result (ReceiveRefused (kind_list kinds) boxes.items hands.old.items hands.new.items) }
 
     // On every answer.
     ensures follows { AllZip Follows hands.old.items hands.new.items }

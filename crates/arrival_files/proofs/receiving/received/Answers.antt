@@ -8,7 +8,7 @@ use Rattle.sink_files.specs.Rooms.{IsRoomFor}
 use Rattle.sink_files.proofs.Taking.{can_cancel}
 use Rattle.sink_files.proofs.Files.{files_rows, files_kinds, files_own, taken_is}
 use Rattle.arrival_files.specs.Receiving.{fault_of_phase}
-use Rattle.arrival_files.proofs.Received.{refused_later, received_rows, received_kinds, received_ends, received_permits, refused_by, refused_end}
+use Rattle.arrival_files.proofs.FilesReceived.{refused_later, received_rows, received_kinds, received_ends, received_permits, refused_by, refused_end}
 use Rattle.arrival_files.proofs.receiving.received.Goals as goal
 
 pub returns-in-Err-clause-follows : goal.returns-in-Err-clause-follows

@@ -2,7 +2,7 @@ use Rattle.std.proofs.Common.{◌≡◌, ◌≤◌, length, take, vec_len}
 use Rattle.std.specs.Prelude.{vec_capacity}
 use Rattle.std.specs.List.{AllZip}
 use Rattle.scatter.specs.Carrying.{IsFrontOf}
-use Rattle.link.proofs.settling.no_fronts.Given as goal
+use Rattle.sent_mail.proofs.settling.no_fronts.Given as goal
 
 abbrev pub invariant-loop-recv : goal.invariant-loop-recv
 invariant-loop-recv l = record {

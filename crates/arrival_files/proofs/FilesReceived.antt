@@ -1,7 +1,7 @@
 -- What a phase that receives comes to, where its sinks write files.
 use Rattle.std.proofs.Common.{◌≡◌, ℕ, ◌+◌, ◌<◌, false, List, [], ◌∷◌, ◌++◌, map, length, inl, inr, refl, sym, ap, subst, ◌∙◌, arith, length-append}
 use Rattle.std.specs.Prelude.{All, ◌⊎◌}
-use Rattle.std.specs.List.{AllZip, flat_map, sum_by}
+use Rattle.std.specs.List.{AllZip, flat_map}
 use Rattle.std.proofs.lemmas.List.Elements.{All-nil, All-cons, All-head, All-tail}
 use Rattle.row_defs.specs.declared.kind.Kind.{Kind}
 use Rattle.row_defs.specs.Limits.{most_rows}
@@ -33,7 +33,7 @@ use Rattle.arrivals.specs.Phases.{Turn, TookBox, IsServed, HasReceived, HasStopp
 use Rattle.arrival_files.specs.declared.receive_err.ReceiveErr.{ReceiveErr}
 use Rattle.arrival_files.specs.declared.receive_err.ReceiveErr.TheVariants as errs
 use Rattle.arrival_files.specs.Receiving.{HasRowsOf, HoldAll, rows_received, ReceiveRefused, fault_of_phase, fault_of_keeping}
-use Rattle.arrival_files.proofs.Turns.{box_in, hand_in, sink_before, sink_after, IsFreshTurn, fresh_in, tells_at, held_at, received_at, some_hit}
+use Rattle.arrival_files.proofs.Turns.{box_in, hand_in, sink_after, IsFreshTurn, fresh_in, tells_at, held_at, received_at, some_hit}
 
 module _ (g : Ghosts SinkValue HandValue PushErr) (wrote : (s t : SinkValue) (rows : List Row) → g.took s rows t → Wrote s.writer rows t.writer) (kinds : List Kind) where
   took_one : (t : Turn SinkValue) → TookBox g kinds t → IsFreshTurn kinds t → Tells t.hand → (lists : List (List Row)) → Holds kinds t.box.packets.items lists → t.took.writer.rows ≡ joined lists

@@ -3,7 +3,7 @@ use Rattle.std.proofs.lemmas.Grind.{common_steps}
 use Rattle.multiplexer.specs.Receiving.{RecvValue}
 use Rattle.scatter.specs.Carrying.{IsFrontOf}
 use Rattle.lent_step.proofs.Lists.{zip_next}
-use Rattle.link.proofs.settling.no_fronts.Goals as goal
+use Rattle.sent_mail.proofs.settling.no_fronts.Goals as goal
 
 pub loop-recv-preserved : goal.loop-recv-preserved
 loop-recv-preserved c =

@@ -17,14 +17,14 @@ use std::snapshot::Snapshot;
 use std::sync::Wait;
 
 /// Says that a stock's net stays what it is.
-pub(crate) fn net_stays<X: Net>(stock: &Stock<X>)
+pub fn net_stays<X: Net>(stock: &Stock<X>)
     ensures { X.stays stock.now.net stock.now.net }
 {
     let _ = stock;
 }
 
 /// Says that a net that serves hands serves them later, with as many permits.
-pub(crate) fn net_fits<'p, D: Disk, X: Net>(
+pub fn net_fits<'p, D: Disk, X: Net>(
     stock: &Stock<X>,
     began: Snapshot<Vec<Hand<'p, D>>>,
     hands: &Vec<Hand<'p, D>>,
@@ -50,8 +50,11 @@ fn no_fronts<'m>(alloc: Global, recvs: &[RecvEnd<'m>]) -> Result<Vec<Vec<Packet>
     Ok(fronts)
 }
 
-/// What was sent, for each receiver, of whom none took any packet.
-pub(crate) fn settle_sent<'m, R: Wait, D: Disk, X: Net>(
+/// Settles the mail of all workers, of which no receiver took a packet yet, and brings what was sent to the pools of those who
+/// are to read it. It waits.
+///
+/// The refusals are those of the net, and want of memory; what was sent is lost then.
+pub fn settle_sent<'m, R: Wait, D: Disk, X: Net>(
     rt: &R,
     alloc: Global,
     stock: &mut Stock<X>,
