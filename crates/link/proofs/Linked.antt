@@ -33,7 +33,8 @@ use Rattle.link.specs.Scattering.{IsNewPost, IsFreshScatter, IsSentOff, IsFreed}
 use Rattle.link.proofs.Sent.{made_sent}
 use Rattle.link.proofs.Senders.{fresh_turns, ended_turns, senders, all_served, permits_back}
 use Rattle.scatter.proofs.Hands.{all_tell}
-use Rattle.link.proofs.Mailed.{Posts, all_still, same_posts, all_own, all_ends, sends_own, bytes_each, bytes_got}
+use Rattle.link.proofs.Mailed.{Posts, all_still, same_posts, all_own, all_ends, sends_own, bytes_each}
+use Rattle.sent_mail.proofs.Mailed.{bytes_got}
 
 -- scatters that are fresh took no row
 pub took_none : {F P : Type 0} (p : posts.Ghosts P) (kinds : List Kind) (workers : ℕ) (routes : List F) (through : List P) (ss : List (ScatterValue F P))

@@ -29,26 +29,10 @@ use Rattle.scatter.specs.Nets.{IsAsGood}
 use Rattle.scatter.specs.Told.{Tells}
 use Rattle.scatter.proofs.Threes.{zip_long}
 use Rattle.scatter.proofs.Mailing.{zip_at}
+use Rattle.sent_mail.proofs.Mailed.{none_in, length_none}
 use Rattle.link.specs.Scattering.{IsNewPost, IsFreshScatter, IsSentOff}
 
--- hands ---------------------------------------------------------------------------------------------------------
-
-pub as_good : (hands now : List HandValue) → AllZip Follows hands now → AllZip (λ (a b : HandValue). b.permits ≡ a.permits) hands now → AllZip IsAsGood hands now
-as_good [] [] later same = tt
-as_good [] (b ∷ now) later same = absurd later
-as_good (a ∷ hands) [] later same = absurd later
-as_good (a ∷ hands) (b ∷ now) later same = let is = same.0 in (record { pool = later.0.pool; permits = omega (arith, is) }, as_good hands now later.1 same.1)
-
 -- new ends ------------------------------------------------------------------------------------------------------
-
-none_in : (n w : ℕ) → slice_index_or {A = List BlockValue} (replicate n []) w [] ≡ []
-none_in zero w = refl
-none_in (suc n) zero = refl
-none_in (suc n) (suc w) = none_in n w
-
-length_none : (n : ℕ) → length {A = List BlockValue} (replicate n []) ≡ n
-length_none zero = refl
-length_none (suc n) = ap suc (length_none n)
 
 module _ (p : Ghosts SendValue) (workers : (s : SendValue) → p.workers s ≡ length s.mail) (sent : (s : SendValue) → p.sent s ≡ s.sent) where
   pub new_posts : (mail : List (SegId Global)) (sends : List SendValue) → AreNewSends mail sends → All (IsNewPost p (length mail)) sends
@@ -61,9 +45,6 @@ module _ (p : Ghosts SendValue) (workers : (s : SendValue) → p.workers s ≡ l
         lanes = ap length through ∙ length_none (length mail);
         none = λ w. ap (λ (l : List (List BlockValue)). sent_to l w) through ∙ none_in (length mail) w;
       }
-
-pub none_taken : (mail : List (SegId Global)) (recvs : List RecvValue) → AreNewRecvs mail recvs → All (λ (r : RecvValue). r.taken ≡ []) recvs
-none_taken mail recvs new = λ k d lt. ap (λ (v : RecvValue). v.taken) (new.each k (get_or recvs k d) (slice_get-get_or recvs k d lt))
 
 -- all blocks that went through a post are of the hand's pool
 abbrev pub Posts : {P : Type 0} → Ghosts P → HandValue → P → Type 0
@@ -167,25 +148,3 @@ module _ (p : Ghosts SendValue) (mail_is : (s : SendValue) → p.mail s ≡ s.ma
   bytes_each (r ∷ rows) (t ∷ to) [] all j k = absurd all
   bytes_each (r ∷ rows) (t ∷ to) (s ∷ now) all j zero = ap (λ (l : List (List BlockValue)). joined (sent_to l j)) (sym (sent s)) ∙ all.0 j
   bytes_each (r ∷ rows) (t ∷ to) (s ∷ now) all j (suc k) = bytes_each rows to now all.1 j k
-
-same_bytes : (b : List ℕ) → b ≡ b
-same_bytes b = refl
-
-pick_bytes : (mine : Bool) (p : Packet) (bytes : List ℕ) (ps : List Packet) → bytes ≡ flat_map (λ (b : List ℕ). b) (bytes_in ps)
-    → cond mine (p.block.bytes ++ bytes) bytes ≡ flat_map (λ (b : List ℕ). b) (bytes_in (cond mine (p ∷ ps) ps))
-pick_bytes true p bytes ps is = ap (λ (rest : List ℕ). p.block.bytes ++ rest) is
-pick_bytes false p bytes ps is = is
-
-bytes_of_sender : (k : ℕ) (ps : List Packet) → bytes_from k ps ≡ flat_map (λ (b : List ℕ). b) (bytes_in (of_sender k ps))
-bytes_of_sender k [] = refl
-bytes_of_sender k (p ∷ ps) = pick_bytes (p.from == k) p (bytes_from k ps) (of_sender k ps) (bytes_of_sender k ps)
-
-joined_bytes : (blocks : List BlockValue) → flat_map (λ (b : List ℕ). b) (map (λ (b : BlockValue). b.bytes) blocks) ≡ joined blocks
-joined_bytes [] = refl
-joined_bytes (b ∷ blocks) = ap (λ (rest : List ℕ). b.bytes ++ rest) (joined_bytes blocks)
-
--- what a receiver has of a sender is what that sent to it
-pub bytes_got : (hands : List HandValue) (now : List SendValue) (boxes : List Inbox) → AreMixesOnBytes hands now boxes → All Tells hands → (j k : ℕ) (x : Inbox) → slice_get boxes j ≡ Some x
-    → bytes_from k x.packets.items ≡ joined (slice_index_or (settling.sent_to j now) k [])
-bytes_got hands now boxes mixes tell j k x at =
-    bytes_of_sender k x.packets.items ∙ ap (flat_map (λ (b : List ℕ). b)) ((mixes.mixed j x at).bytes tell k) ∙ joined_bytes (slice_index_or (settling.sent_to j now) k [])

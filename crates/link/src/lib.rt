@@ -12,7 +12,6 @@ mod link;
 mod link_err;
 mod making;
 mod sending;
-mod settling;
 
 pub use link::Link;
 pub use link_err::LinkErr;

@@ -1,18 +1,15 @@
 -- What a phase whose sinks write files comes to.
-use Rattle.std.proofs.Common.{◌≡◌, ℕ, zero, suc, ◌+◌, ◌<◌, false, List, [], ◌∷◌, ◌++◌, map, length, Some, inl, inr, refl, sym, ap, subst, ◌∙◌, arith, length-append}
+use Rattle.std.proofs.Common.{◌≡◌, ℕ, ◌+◌, ◌<◌, false, List, [], ◌∷◌, ◌++◌, map, length, Some, inl, inr, refl, sym, ap, subst, ◌∙◌, arith, length-append}
 use Rattle.std.specs.Prelude.{All, ◌⊎◌, slice_get}
-use Rattle.std.specs.List.{AllZip, flat_map, sum_by}
+use Rattle.std.specs.List.{AllZip, flat_map}
 use Rattle.std.proofs.lemmas.List.Elements.{All-nil, All-cons, All-head, All-tail}
-use Rattle.std.proofs.lemmas.List.Sums.{sum_by-cons}
 use Rattle.std.proofs.lemmas.List.Concat.{flat_map-append}
 use Rattle.row_defs.specs.declared.kind.Kind.{Kind}
 use Rattle.row_defs.specs.Limits.{most_rows}
 use Rattle.row_defs.specs.Rows.{Row}
 use Rattle.row_defs.specs.LocalOps.{LocalOp, rows_through}
 use Rattle.row_defs.specs.Operands.{Root}
-use Rattle.block_pool.specs.Handles.{HandValue, Follows, PoolName}
-use Rattle.block_pool.specs.Follows.{follows_trans}
-use Rattle.dia_file.specs.Files.{FileValue, IsFileOf}
+use Rattle.block_pool.specs.Handles.{HandValue, Follows}
 use Rattle.dia_file.specs.Frames.{frames}
 use Rattle.dia_file.specs.Writers.{frames_of}
 use Rattle.dia_file.specs.declared.refusals.PushErr.{PushErr}
@@ -24,48 +21,24 @@ use Rattle.file_sink.specs.Sinks.{SinkValue, Wrote, RefusesTake, KeepsFile}
 use Rattle.scatter.specs.declared.feed_err.FeedErr.{FeedErr}
 use Rattle.scatter.specs.declared.feed_err.FeedErr.TheVariants.{Sink, Disk, Damaged, NoMemory}
 use Rattle.scatter.specs.Feeds.{FeedValue}
-use Rattle.scatter.specs.Lines.{Lines, HasKinds, root_rows, root_feeds}
+use Rattle.scatter.specs.Lines.{Lines, root_rows, root_feeds}
 use Rattle.scatter.specs.Sends.{IsCutOff}
-use Rattle.scatter.specs.Phases.{Turn, AllThree, CanTake, TookWhole, IsServed, HasSent, HasStopped, pools_of}
-use Rattle.scatter.specs.Told.{Tells, AreTold, SomeHit, arriving}
+use Rattle.scatter.specs.Phases.{Turn, AllThree, TookWhole, IsServed, HasSent, HasStopped}
+use Rattle.scatter.specs.Told.{Tells, AreTold, arriving}
 use Rattle.scatter.proofs.Arriving.{hand_in, sink_before, sink_after, IsToldTurn, all_back, told_turns, arrived, arrived_is, arrived_at, whole_rows, at_rank, some_hit}
-use Rattle.place_node.specs.declared.ending.End.TheVariants.{Finish, Cancel}
 use Rattle.place_node.specs.declared.node_err.NodeErr.{NodeErr}
 use Rattle.place_node.specs.declared.node_err.NodeErr.TheVariants as errs
-use Rattle.place_node.specs.Placing.{HasTwoPermits, rows_of, node_refusal, PlaceRefused}
-use Rattle.scatter.proofs.Threes.{zip_long}
-use Rattle.place_node.specs.Ending.{IsFreshSink, CanEnd, IsBack, IsFileFrom, rows_taken}
-
-pub fresh_long : (kinds : List Kind) (ss : List SinkValue) (hs : List HandValue) → AllZip (IsFreshSink kinds) ss hs → length ss ≡ length hs
-fresh_long kinds ss hs h = zip_long (IsFreshSink kinds) ss hs h
-
--- the ghosts of a sink that writes a file
-module _ (g : Ghosts SinkValue HandValue PushErr) (accepts : (s : SinkValue) (kinds : List Kind) → s.writer.kinds ≡ kinds → g.accepts s kinds) (is_open : (s : SinkValue) → s.is_shut ≡ false → g.is_shut s ≡ false)
-    (serves : (s : SinkValue) (d : HandValue) → sinks.IsServed s d → g.serves s d) where
-  can_one : (kinds : List Kind) (s : SinkValue) (a : HandValue) → IsFreshSink kinds s a → HasTwoPermits a → CanTake g kinds s a
-  can_one kinds s a f two = record {
-    accepts = accepts s kinds f.kinds_are;
-    is_open = is_open s f.is_open;
-    serves = λ b same more. serves s b (record { own = same ∙ sym f.own; permit = omega arith });
-    permit = omega arith;
-  }
-
-  pub can_take : (kinds : List Kind) (ss : List SinkValue) (hs : List HandValue) → AllZip (IsFreshSink kinds) ss hs → All HasTwoPermits hs → AllZip (CanTake g kinds) ss hs
-  can_take kinds [] [] fresh two = tt
-  can_take kinds [] (a ∷ hs) fresh two = absurd fresh
-  can_take kinds (s ∷ ss) [] fresh two = absurd fresh
-  can_take kinds (s ∷ ss) (a ∷ hs) fresh two = (can_one kinds s a fresh.0 (All-head HasTwoPermits a hs two), can_take kinds ss hs fresh.1 (All-tail HasTwoPermits a hs two))
+use Rattle.sink_files.specs.declared.keep_err.KeepErr.{KeepErr}
+use Rattle.sink_files.specs.declared.keep_err.KeepErr.TheVariants as keeps
+use Rattle.sink_files.specs.Ending.{IsFreshSink, CanFinish, IsBack}
+use Rattle.sink_files.specs.Keeping.{KeepRefused}
+use Rattle.sink_files.proofs.Files.{rows_in, taken_is}
+use Rattle.sink_files.proofs.Hits.{hit_later}
+use Rattle.place_node.specs.Placing.{node_refusal, keep_refusal, PlaceRefused}
 
 -- a turn whose sink took no row before
 abbrev IsFreshTurn : List Kind → Turn SinkValue → Type 0
 IsFreshTurn kinds t = IsFreshSink kinds t.sink t.hand
-
--- what a hand is at a rank, and later
-at_later : (now end : List HandValue) (rank : ℕ) (a : HandValue) → slice_get now rank ≡ Some a → AllZip Follows now end → (b : HandValue) × (slice_get end rank ≡ Some b) × Follows a b
-at_later [] end rank a at later = cc
-at_later (x ∷ now) [] rank a at later = absurd later
-at_later (x ∷ now) (b ∷ end) zero a at later = let same : x ≡ a = cc in (b, refl, subst (λ (y : HandValue). Follows y b) same later.0)
-at_later (x ∷ now) (b ∷ end) (suc rank) a at later = at_later now end rank a at later.1
 
 fresh_turns : (kinds : List Kind) (turns : List (Turn SinkValue)) → AllZip (IsFreshSink kinds) (map sink_before turns) (map hand_in turns) → All (IsFreshTurn kinds) turns
 fresh_turns kinds [] h = All-nil (IsFreshTurn kinds)
@@ -75,9 +48,6 @@ pub fresh_in : (kinds : List Kind) (turns : List (Turn SinkValue)) (ss : List Si
     → AllZip (IsFreshSink kinds) ss hs → All (IsFreshTurn kinds) turns
 fresh_in kinds turns ss hs are_sinks are_hands h =
     fresh_turns kinds turns (subst (λ hs. AllZip (IsFreshSink kinds) (map sink_before turns) hs) (sym are_hands) (subst (λ ss. AllZip (IsFreshSink kinds) ss hs) (sym are_sinks) h))
-
-abbrev rows_in : SinkValue → List Row
-rows_in s = s.writer.rows
 
 module _ (g : Ghosts SinkValue HandValue PushErr) (wrote : (s t : SinkValue) (rows : List Row) → g.took s rows t → Wrote s.writer rows t.writer) (kinds : List Kind) where
   took_one : (t : Turn SinkValue) → TookWhole g t → IsToldTurn t → IsFreshTurn kinds t → t.took.writer.rows ≡ rows_from t.feed.ops t.feed.left
@@ -131,7 +101,7 @@ module _ (g : Ghosts SinkValue HandValue PushErr) (wrote : (s t : SinkValue) (ro
 module _ (g : Ghosts SinkValue HandValue PushErr) where
   -- each sink may be finished with its hand
   pub can_finish : ((s : SinkValue) (d : HandValue) → g.serves s d → sinks.IsServed s d) → ((s : SinkValue) → g.is_shut s ≡ false → s.is_shut ≡ false)
-      → (turns : List (Turn SinkValue)) (now : List HandValue) → AllZip (IsServed g) turns now → AllZip (CanEnd Finish) (map sink_after turns) now
+      → (turns : List (Turn SinkValue)) (now : List HandValue) → AllZip (IsServed g) turns now → AllZip (CanFinish) (map sink_after turns) now
   can_finish served is_open [] [] all = tt
   can_finish served is_open [] (b ∷ now) all = absurd all
   can_finish served is_open (t ∷ turns) [] all = absurd all
@@ -157,62 +127,7 @@ module _ (g : Ghosts SinkValue HandValue PushErr) where
   permits_back kinds held (t ∷ turns) [] end all fresh back = absurd all
   permits_back kinds held (t ∷ turns) (b ∷ now) [] all fresh back = absurd back
 
--- each sink may be cancelled with its hand, whatever the phase came to
-pub can_cancel : (kinds : List Kind) (ss ts : List SinkValue) (hs now : List HandValue) → AllZip (IsFreshSink kinds) ss hs → AllZip KeepsFile ss ts → AllZip Follows hs now → AllZip (CanEnd Cancel) ts now
-can_cancel kinds [] [] [] [] fresh stays later = tt
-can_cancel kinds (s ∷ ss) (t ∷ ts) (a ∷ hs) (b ∷ now) fresh stays later =
-    (later.0.pool ∙ sym fresh.0.own ∙ sym stays.0.pool, can_cancel kinds ss ts hs now fresh.1 stays.1 later.1)
-can_cancel kinds [] [] [] (b ∷ now) fresh stays later = absurd later
-can_cancel kinds [] [] (a ∷ hs) now fresh stays later = absurd fresh
-can_cancel kinds [] (t ∷ ts) hs now fresh stays later = absurd stays
-can_cancel kinds (s ∷ ss) [] hs now fresh stays later = absurd stays
-can_cancel kinds (s ∷ ss) (t ∷ ts) [] now fresh stays later = absurd fresh
-can_cancel kinds (s ∷ ss) (t ∷ ts) (a ∷ hs) [] fresh stays later = absurd later
-
--- the files of sinks ---------------------------------------------------------------------------------------------------
-
--- joined by rank they have what the sinks took
-pub files_rows : (ss : List SinkValue) (bs : List HandValue) (files : List FileValue) → AllThree IsFileFrom ss bs files → rows_of files ≡ flat_map rows_in ss
-files_rows [] [] [] h = refl
-files_rows (s ∷ ss) (b ∷ bs) (f ∷ files) h =
-    ap (λ (rows : List Row). rows ++ rows_of files) h.0.rows ∙ ap (λ (rows : List Row). s.writer.rows ++ rows) (files_rows ss bs files h.1)
-files_rows _ _ _ h = absurd h
-
-pub files_kinds : (kinds : List Kind) (ss : List SinkValue) (bs : List HandValue) (files : List FileValue) → All (λ (s : SinkValue). s.writer.kinds ≡ kinds) ss
-    → AllThree IsFileFrom ss bs files → All (HasKinds kinds) files
-files_kinds kinds [] [] [] are h = All-nil (HasKinds kinds)
-files_kinds kinds (s ∷ ss) (b ∷ bs) (f ∷ files) are h =
-    let Are : SinkValue → Type 0 = λ s. s.writer.kinds ≡ kinds in
-    All-cons (HasKinds kinds) f files (h.0.kinds ∙ All-head Are s ss are) (files_kinds kinds ss bs files (All-tail Are s ss are) h.1)
-files_kinds kinds _ _ _ are h = absurd h
-
--- they are of the pools of the hands
-pub files_own : (ss : List SinkValue) (hs bs : List HandValue) (files : List FileValue) → AllZip Follows hs bs → AllThree IsFileFrom ss bs files → AllZip IsFileOf (pools_of hs) files
-files_own [] [] [] [] later h = tt
-files_own (s ∷ ss) (a ∷ hs) (b ∷ bs) (f ∷ files) later h =
-    (subst (λ (pool : PoolName). IsFileOf pool f) later.0.pool h.0.own, files_own ss hs bs files later.1 h.1)
-files_own ss [] (b ∷ bs) files later h = absurd later
-files_own ss (a ∷ hs) [] files later h = absurd later
-files_own [] [] [] (f ∷ files) later h = absurd h
-files_own (s ∷ ss) [] [] files later h = absurd h
-files_own [] (a ∷ hs) (b ∷ bs) files later h = absurd h
-files_own (s ∷ ss) (a ∷ hs) (b ∷ bs) [] later h = absurd h
-
--- how many rows sinks took together
-pub taken_is : (ss : List SinkValue) → sum_by rows_taken ss ≡ length (flat_map rows_in ss)
-taken_is [] = refl
-taken_is (s ∷ ss) =
-    let both = length-append s.writer.rows (flat_map rows_in ss) in
-    let rest = taken_is ss in
-    let taken = sum_by-cons rows_taken s ss in
-    omega arith
-
 -- refusals ------------------------------------------------------------------------------------------------------------------
-
-hit_later : (hands now end : List HandValue) (count : ℕ) → AllZip Follows now end → SomeHit hands now count → SomeHit hands end count
-hit_later hands now end count later h =
-    let last = at_later now end h.rank h.after h.is later in
-    record { rank = h.rank; before = h.before; met = h.met; after = last.0; was = h.was; is = last.1; hit = h.hit; later = follows_trans h.met h.after last.0 h.later last.2 }
 
 -- a refusal stays one when the hands go on
 pub refused_later : (lines : Lines) (root : Root) (ops : List LocalOp) (hands now end : List HandValue) (e : NodeErr) → AllZip Follows now end
@@ -242,8 +157,8 @@ module _ (g : Ghosts SinkValue HandValue PushErr) (wrote : (s t : SinkValue) (ro
       (took_kinds g wrote kinds sent.turns now sent.all (fresh_in kinds sent.turns ss hands are.sinks_are are.hands_are fresh))
 
   pub placed_ends : ((s : SinkValue) (d : HandValue) → g.serves s d → sinks.IsServed s d) → ((s : SinkValue) → g.is_shut s ≡ false → s.is_shut ≡ false)
-      → HasSent g (root_feeds lines workers root last ops) ss hands took now → AllZip (CanEnd Finish) took now
-  placed_ends served is_open sent = subst (λ (ts : List SinkValue). AllZip (CanEnd Finish) ts now) sent.are.took_is (can_finish g served is_open sent.turns now sent.all)
+      → HasSent g (root_feeds lines workers root last ops) ss hands took now → AllZip (CanFinish) took now
+  placed_ends served is_open sent = subst (λ (ts : List SinkValue). AllZip (CanFinish) ts now) sent.are.took_is (can_finish g served is_open sent.turns now sent.all)
 
   pub placed_permits : ((s t : SinkValue) (a b : HandValue) → g.held t b ≡ g.held s a → b.permits + frames_of t.writer ≡ a.permits + frames_of s.writer) → (end : List HandValue)
       → HasSent g (root_feeds lines workers root last ops) ss hands took now → AllThree IsBack took now end → AllZip (λ (a b : HandValue). b.permits ≡ a.permits) hands end
@@ -277,8 +192,7 @@ module _ (g : Ghosts SinkValue HandValue PushErr) (wrote : (s t : SinkValue) (ro
   refused_by e (inr stop) = stopped_by e stop
 
   -- all was sent, and then there was no memory, or there were too many rows together
-  pub refused_end : (e : NodeErr) (end : List HandValue) → HasSent g (root_feeds lines workers root last ops) ss hands took now → (e ≡ errs.NoMemory) ⊎ ((e ≡ errs.TooManyRows) × (most_rows < sum_by rows_taken took))
-      → PlaceRefused lines root ops hands end e
-  refused_end e end sent (inl is) = subst (λ f. PlaceRefused lines root ops hands end f) (sym is) tt
-  refused_end e end sent (inr many) = subst (λ f. PlaceRefused lines root ops hands end f) (sym many.0)
-      (λ told. subst (λ n. most_rows < n) (taken_is took ∙ ap length (placed_rows sent told)) many.1)
+  pub refused_end : (e : KeepErr) (end : List HandValue) → HasSent g (root_feeds lines workers root last ops) ss hands took now → KeepRefused took e
+      → PlaceRefused lines root ops hands end (keep_refusal e)
+  refused_end keeps.NoMemory end sent why = tt
+  refused_end keeps.TooManyRows end sent many = λ told. subst (λ n. most_rows < n) (taken_is took ∙ ap length (placed_rows sent told)) many

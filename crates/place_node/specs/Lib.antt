@@ -1,3 +1,1 @@
 pub mod Placing
-pub mod Ending
-pub mod Rooms

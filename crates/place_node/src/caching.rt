@@ -5,6 +5,7 @@ ghost use Rattle.row_defs.specs.Limits.{most_rows};
 ghost use Rattle.row_defs.specs.LocalOps.{AreSoundOps};
 ghost use Rattle.dia_item.specs.KindList.{kind_list};
 ghost use Rattle.block_pool.specs.Handles.{HandValue, Follows};
+ghost use Rattle.dia_file.specs.Cuts.{rows_of_files};
 ghost use Rattle.dia_file.specs.Files.{IsFileOf};
 ghost use Rattle.lop_chain.specs.Ops.{ops_in};
 ghost use Rattle.lop_chain.specs.Operands.{root_in};
@@ -13,40 +14,22 @@ ghost use Rattle.scatter.specs.Lines.{HasKinds, HasRoot, root_kinds, root_feeds}
 ghost use Rattle.scatter.specs.Stocks.{lines_of, AreInPools};
 ghost use Rattle.scatter.specs.Phases.{pools_of, IsUsed, HasSent, HasStopped};
 ghost use Rattle.scatter.specs.Told.{AreTold, arriving};
-ghost use Rattle.place_node.specs.Placing.{HasTwoPermits, rows_of, PlaceRefused};
-ghost use Rattle.place_node.specs.Ending.{IsFreshSink};
-ghost use Rattle.place_node.specs.Rooms.{IsRoomFor};
+ghost use Rattle.sink_files.specs.Ending.{HasTwoPermits, IsFreshSink};
+ghost use Rattle.place_node.specs.Placing.{PlaceRefused};
 
-use crate::keeping::{Room, cancel_all, keep_all};
-use crate::node_err::{NodeErr, refusal_of};
+use crate::node_err::{NodeErr, refusal_of, refusal_of_keeping};
 use block_pool::Hand;
 use dia_edge::{Disk, Gate, NoMemory};
 use dia_file::{File, PushErr};
-use dia_item::Kinds;
 use file_sink::FileSink;
 use hand_phase::run_hands;
 use lop_chain::{Operand, RowSink};
-use row_defs::limits::MOST_ROWS;
 use scatter::{FeedErr, Net, Phase, Stock};
+use sink_files::{cancel_all, keep_all, made_ready};
 use std::alloc::Global;
 use std::sync::Wait;
 use std::thread::Threads;
 use worker_step::{MOST_TASKS, Way};
-
-/// A sink for each hand, of rows of these kinds.
-fn sinks_for<'p, D: Disk>(
-    alloc: Global,
-    kinds: Kinds,
-    hands: &[Hand<'p, D>],
-) -> Result<Vec<FileSink<'p, D>>, NoMemory>
-    ensures fresh { IfOk result (λ sinks. AllZip (IsFreshSink (kind_list kinds)) sinks.items hands.now) }
-{
-    let mut sinks = Vec::with_capacity(alloc, hands.len())?;
-    for hand in hands {
-        sinks.push_reserved(FileSink::new(alloc, kinds, MOST_ROWS, hand));
-    }
-    Ok(sinks)
-}
 
 /// One phase: each worker writes what is made of the rows of its feed.
 fn place_phase<'p, R: Threads + Wait + Sync, G: Gate + Sync, D: Disk + Send + Sync, X: Net>(
@@ -96,19 +79,6 @@ fn place_phase<'p, R: Threads + Wait + Sync, G: Gate + Sync, D: Disk + Send + Sy
     phase.finish(rt, alloc, stock, hands, sinks, answer)
 }
 
-/// Room for what all workers write, and a sink for each.
-fn made_ready<'p, D: Disk>(
-    alloc: Global,
-    kinds: Kinds,
-    hands: &[Hand<'p, D>],
-) -> Result<(Room<'p, D>, Vec<FileSink<'p, D>>), NoMemory>
-    ensures room { IfOk result (λ ready. IsRoomFor (vec_len ready.1) ready.0) }
-    ensures fresh { IfOk result (λ ready. AllZip (IsFreshSink (kind_list kinds)) ready.1.items hands.now) }
-{
-    let sinks = sinks_for(alloc, kinds, hands)?;
-    Ok((Room::new(alloc, sinks.len())?, sinks))
-}
-
 /// Each worker writes what is made of the rows of its feed to a file.
 pub(crate) fn cache<'p, R: Threads + Wait + Sync, G: Gate + Sync, D: Disk + Send + Sync, X: Net>(
     rt: &R,
@@ -129,8 +99,8 @@ pub(crate) fn cache<'p, R: Threads + Wait + Sync, G: Gate + Sync, D: Disk + Send
     ensures own { IfOk result (λ files. AllZip IsFileOf (pools_of hands.old.items) files.items) }
     ensures kinds { IfOk result (λ files. All (HasKinds (kind_list operand.now.kinds)) files.items) }
     ensures rows { IfOk result (λ files. AreTold (root_in operand.now.root) hands.old.items
-        → rows_of files.items ≡ arriving (lines_of stock.old) (root_in operand.now.root) (ops_in operand.now.chain.items)) }
-    ensures few { IfOk result (λ files. length (rows_of files.items) ≤ most_rows) }
+        → rows_of_files files.items ≡ arriving (lines_of stock.old) (root_in operand.now.root) (ops_in operand.now.chain.items)) }
+    ensures few { IfOk result (λ files. length (rows_of_files files.items) ≤ most_rows) }
     ensures permits { OnOk result (AllZip (λ (a b : HandValue). b.permits ≡ a.permits) hands.old.items hands.new.items) }
     ensures refused { IfErr result (PlaceRefused (lines_of stock.old) (root_in operand.now.root) (ops_in operand.now.chain.items) hands.old.items hands.new.items) }
     ensures lines { OnOk result (IsUsed (lines_of stock.old) (root_in operand.now.root) operand.now.last (lines_of stock.new)) }
@@ -147,7 +117,10 @@ pub(crate) fn cache<'p, R: Threads + Wait + Sync, G: Gate + Sync, D: Disk + Send
         Err(NoMemory) => return Err(NodeErr::NoMemory),
     };
     match place_phase(rt, alloc, way, stock, operand, hands, &mut sinks) {
-        Ok(()) => keep_all(rt, alloc, hands, sinks, room),
+        Ok(()) => match keep_all(rt, alloc, hands, sinks, room) {
+            Ok(files) => Ok(files),
+            Err(refusal) => Err(refusal_of_keeping(refusal)),
+        },
         Err(fault) => {
             cancel_all(rt, alloc, hands, sinks, room);
             Err(refusal_of(fault))

@@ -6,8 +6,6 @@
 #![tactic(auto)]
 
 mod caching;
-mod ending;
-mod keeping;
 mod node;
 mod node_err;
 

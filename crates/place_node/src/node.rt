@@ -5,6 +5,7 @@ ghost use Rattle.row_defs.specs.Limits.{most_rows};
 ghost use Rattle.row_defs.specs.LocalOps.{AreSoundOps};
 ghost use Rattle.dia_item.specs.KindList.{kind_list};
 ghost use Rattle.block_pool.specs.Handles.{HandValue, Follows};
+ghost use Rattle.dia_file.specs.Cuts.{rows_of_files};
 ghost use Rattle.dia_file.specs.Files.{IsFileOf};
 ghost use Rattle.lop_chain.specs.Ops.{ops_in};
 ghost use Rattle.lop_chain.specs.Operands.{root_in};
@@ -12,7 +13,8 @@ ghost use Rattle.scatter.specs.Lines.{HasKinds, HasRoot, root_kinds};
 ghost use Rattle.scatter.specs.Stocks.{lines_of, AreInPools};
 ghost use Rattle.scatter.specs.Phases.{pools_of, IsUsed};
 ghost use Rattle.scatter.specs.Told.{AreTold, arriving};
-ghost use Rattle.place_node.specs.Placing.{HasTwoPermits, rows_of, PlaceRefused};
+ghost use Rattle.sink_files.specs.Ending.{HasTwoPermits};
+ghost use Rattle.place_node.specs.Placing.{PlaceRefused};
 
 use crate::caching::cache;
 use crate::node_err::NodeErr;
@@ -70,8 +72,8 @@ impl PlaceNode {
         ensures own { IfOk result (λ files. AllZip IsFileOf (pools_of hands.old.items) files.items) }
         ensures kinds { IfOk result (λ files. All (HasKinds (kind_list operand.now.kinds)) files.items) }
         ensures rows { IfOk result (λ files. AreTold (root_in operand.now.root) hands.old.items
-            → rows_of files.items ≡ arriving (lines_of stock.old) (root_in operand.now.root) (ops_in operand.now.chain.items)) }
-        ensures few { IfOk result (λ files. length (rows_of files.items) ≤ most_rows) }
+            → rows_of_files files.items ≡ arriving (lines_of stock.old) (root_in operand.now.root) (ops_in operand.now.chain.items)) }
+        ensures few { IfOk result (λ files. length (rows_of_files files.items) ≤ most_rows) }
         ensures permits { OnOk result (AllZip (λ (a b : HandValue). b.permits ≡ a.permits) hands.old.items hands.new.items) }
         ensures refused { IfErr result (PlaceRefused (lines_of stock.old) (root_in operand.now.root) (ops_in operand.now.chain.items) hands.old.items hands.new.items) }
         ensures lines { OnOk result (IsUsed (lines_of stock.old) (root_in operand.now.root) operand.now.last (lines_of stock.new)) }

@@ -1,9 +1,10 @@
 //! Why a node has no files.
 ghost use Rattle.std.specs.Prelude.{◌≡◌};
-ghost use Rattle.place_node.specs.Placing.{node_refusal};
+ghost use Rattle.place_node.specs.Placing.{node_refusal, keep_refusal};
 
 use dia_file::PushErr;
 use scatter::FeedErr;
+use sink_files::KeepErr;
 
 /// Why a node has no files; what it had written is gone.
 #[derive(Clone, Copy, Debug, PartialEq, Eq)]
@@ -32,5 +33,15 @@ pub(crate) fn refusal_of(fault: FeedErr<PushErr>) -> NodeErr
         FeedErr::Disk { count } => NodeErr::Disk { count },
         FeedErr::Damaged => NodeErr::Damaged,
         FeedErr::NoMemory => NodeErr::NoMemory,
+    }
+}
+
+/// What it is for a node that sinks have no files.
+pub(crate) fn refusal_of_keeping(refusal: KeepErr) -> NodeErr
+    ensures { result ≡ keep_refusal refusal }
+{
+    match refusal {
+        KeepErr::NoMemory => NodeErr::NoMemory,
+        KeepErr::TooManyRows => NodeErr::TooManyRows,
     }
 }

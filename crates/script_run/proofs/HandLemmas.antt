@@ -16,7 +16,7 @@ use Rattle.scatter.specs.Nets.{AreOfOnePool}
 use Rattle.scatter.specs.Phases.{pools_of}
 use Rattle.scatter.specs.Told.{HasPermit, SomeHit}
 use Rattle.scatter.proofs.Hands.{follow_refl, permits_refl}
-use Rattle.place_node.specs.Placing.{HasTwoPermits}
+use Rattle.sink_files.specs.Ending.{HasTwoPermits}
 use Rattle.scatter.proofs.Hands.{all_tell, hit_since}
 use Rattle.script_run.specs.declared.run_err.RunErr.{RunErr}
 use Rattle.script_run.specs.declared.run_err.RunErr.TheVariants as errors

@@ -18,7 +18,7 @@ use Rattle.scatter.specs.Stocks.{AreInPools}
 use Rattle.scatter.proofs.Rooted.{put_value}
 use Rattle.stage_laws.specs.Standing.{KeepsOneMore, KeepsBut, HasRows, AreAtRoot}
 use Rattle.script_run.specs.Held.{rows_of_line, kept_by, IsKept, AreNumbers}
-use Rattle.place_node.proofs.Lists.{all_some}
+use Rattle.sink_files.proofs.Lists.{all_some}
 
 -- files that are put ----------------------------------------------------------------------------------------------------
 

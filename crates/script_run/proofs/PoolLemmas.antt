@@ -9,7 +9,7 @@ use Rattle.dia_edge.specs.Shelves.{Holdings}
 use Rattle.block_pool.specs.Handles.{PoolName, HandValue, PassValue, PermitsValue, Follows}
 use Rattle.block_pool.specs.Opening.{IsShare, IsOf, IsBorneOut}
 use Rattle.scatter.specs.Told.{Tells, SomeHit}
-use Rattle.place_node.specs.Placing.{HasTwoPermits}
+use Rattle.sink_files.specs.Ending.{HasTwoPermits}
 use Rattle.script_run.specs.declared.run_err.RunErr.{RunErr}
 use Rattle.script_run.specs.declared.run_err.RunErr.TheVariants as errors
 use Rattle.script_defs.specs.Ends.{cut_off}

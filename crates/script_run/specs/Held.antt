@@ -17,7 +17,7 @@ use Rattle.scatter.specs.Lines.{LineValue, Lines, files_in}
 use Rattle.scatter.specs.Nets.{AreOfOnePool}
 use Rattle.scatter.specs.Phases.{pools_of}
 use Rattle.scatter.specs.Stocks.{AreInPools, lines_of}
-use Rattle.place_node.specs.Placing.{HasTwoPermits}
+use Rattle.sink_files.specs.Ending.{HasTwoPermits}
 use Rattle.stage_laws.specs.Standing.{Kept, HasRows}
 use Rattle.script_run.specs.declared.team.Team.{Team}
 

@@ -8,7 +8,7 @@ ghost use Rattle.script_defs.specs.Needs.{inputs_needed};
 ghost use Rattle.block_pool.specs.Handles.{Follows};
 ghost use Rattle.dia_lines.specs.Inputs.{Asks};
 ghost use Rattle.scatter.specs.Nets.{AreOfOnePool};
-ghost use Rattle.place_node.specs.Placing.{HasTwoPermits};
+ghost use Rattle.sink_files.specs.Ending.{HasTwoPermits};
 ghost use Rattle.stage_laws.specs.Standing.{Ended, EndsWith};
 ghost use Rattle.script_run.specs.Errors.{TellsStop, ending_in};
 ghost use Rattle.script_run.specs.Held.{told_in, told_by};

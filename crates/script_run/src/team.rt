@@ -17,7 +17,7 @@ ghost use Rattle.scatter.specs.Nets.{AreOfOnePool};
 ghost use Rattle.scatter.specs.Stocks.{lines_of};
 ghost use Rattle.scatter.specs.Lines.{HasKinds};
 ghost use Rattle.scatter.specs.Phases.{pools_of};
-ghost use Rattle.place_node.specs.Placing.{HasTwoPermits};
+ghost use Rattle.sink_files.specs.Ending.{HasTwoPermits};
 ghost use Rattle.stage_builder.specs.Views.{stage_in, plan_in};
 ghost use Rattle.stage_laws.specs.Standing.{CanDo, Ended, EndsWith};
 ghost use Rattle.script_run.specs.Errors.{TellsStop, ending_in};

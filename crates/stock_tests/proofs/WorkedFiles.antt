@@ -14,9 +14,9 @@ use Rattle.lop_chain.specs.Operands.{root_in}
 use Rattle.scatter.specs.Lines.{Lines, Sets, HasKinds, first_kinds, kinds_of_line}
 use Rattle.scatter.specs.Stocks.{AreInPools, IsPartOf}
 use Rattle.scatter.specs.Phases.{IsUsed, pools_of}
-use Rattle.place_node.specs.Placing.{HasTwoPermits}
+use Rattle.sink_files.specs.Ending.{HasTwoPermits}
 use Rattle.stock_tests.specs.WorkedFiles.{AreHands, IsStocked}
-use Rattle.place_node.proofs.Lists.{all_some}
+use Rattle.sink_files.proofs.Lists.{all_some}
 
 abbrev IsOwn : PoolName → HandValue → Type 0
 IsOwn pool hand = hand.pool ≡ pool

@@ -5,7 +5,7 @@ use Rattle.row_defs.specs.Operands.{stored_root}
 use Rattle.block_pool.specs.Handles.{PoolName, HandValue, PassValue, PermitsValue}
 use Rattle.scatter.specs.Lines.{Lines, HasRoot, root_kinds}
 use Rattle.scatter.specs.Stocks.{AreInPools}
-use Rattle.place_node.specs.Placing.{HasTwoPermits}
+use Rattle.sink_files.specs.Ending.{HasTwoPermits}
 
 -- shares of this pool, each with two permits
 abbrev pub AreReady : PoolName → List (PassValue × PermitsValue) → Type 0

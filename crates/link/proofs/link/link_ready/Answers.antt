@@ -4,7 +4,8 @@ use Rattle.block_pool.specs.Handles.{HandValue}
 use Rattle.scatter.proofs.Hands.{follow_trans, permits_trans, follow_count}
 use Rattle.scatter.specs.Carrying.{NotCarried}
 use Rattle.link.specs.Linking.{CanRoute, rows_sent}
-use Rattle.link.proofs.Mailed.{new_posts, none_taken, as_good}
+use Rattle.sent_mail.proofs.Mailed.{none_taken, as_good}
+use Rattle.link.proofs.Mailed.{new_posts}
 use Rattle.link.proofs.Refused.{refused_by, refused_net}
 use Rattle.link.proofs.Linked.{took_none, may_finish, permits_again, ends_left, all_sent_own, linked}
 use Rattle.scatter.specs.Told.{AreTold}

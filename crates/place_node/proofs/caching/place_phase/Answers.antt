@@ -5,8 +5,8 @@ use Rattle.atomic_table.proofs.badge.Badge.TheSendSync as badge
 use Rattle.std.proofs.Common.{◌≡◌, length, refl, arith}
 use Rattle.dia_item.specs.KindList.{kind_list}
 use Rattle.scatter.proofs.Hands.{follow_refl}
-use Rattle.place_node.proofs.Lists.{keep_refl}
-use Rattle.place_node.proofs.Placed.{can_take, fresh_long}
+use Rattle.sink_files.proofs.Lists.{keep_refl}
+use Rattle.sink_files.proofs.Taking.{can_take, fresh_long}
 use Rattle.place_node.proofs.caching.place_phase.Goals as goal
 
 pub begin-requires : goal.begin-requires

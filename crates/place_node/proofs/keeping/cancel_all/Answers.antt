@@ -1,7 +1,0 @@
-use Rattle.place_node.proofs.Lists.{back_follows}
-use Rattle.place_node.proofs.keeping.cancel_all.Goals as goal
-
-pub returns : goal.returns
-returns g c =
-    rw (← c.replace-moved.ensures.value)
-    (back_follows c.args.sinks.items c.replace-moved.result.items c.end_all-ended.result.hands.items c.end_all-ended.ensures.hands)
