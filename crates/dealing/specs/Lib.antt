@@ -1,0 +1,5 @@
+pub mod Operands
+pub mod Boxes
+pub mod Routes
+pub mod Deals
+pub mod Refusals
