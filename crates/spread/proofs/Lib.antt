@@ -1,0 +1,3 @@
+pub mod BlocksSent
+pub mod Carried
+pub mod LineSpread
