@@ -7,3 +7,5 @@
 mod linking;
 #[cfg(test)]
 mod receiving;
+#[cfg(test)]
+mod spreading;

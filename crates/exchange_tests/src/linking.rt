@@ -26,7 +26,10 @@ use std::thread::Threads;
 use worker_step::Way;
 
 /// A pool for two workers over a disk with calls that fail, and their shares.
-fn open(alloc: Global, fail: Vec<u64>) -> Result<(Pool<MemDisk>, Vec<(Pass, Permits)>), OpenErr>
+pub(crate) fn open(
+    alloc: Global,
+    fail: Vec<u64>,
+) -> Result<(Pool<MemDisk>, Vec<(Pass, Permits)>), OpenErr>
     ensures ready { IfOk result (λ opened. AreReady (new_pool opened.0 28 4096) opened.1.items) }
     ensures len { IfOk result (λ opened. vec_len opened.1 ≡ 2) }
 {
@@ -38,7 +41,7 @@ fn open(alloc: Global, fail: Vec<u64>) -> Result<(Pool<MemDisk>, Vec<(Pass, Perm
 }
 
 /// Their hands.
-fn hands_of<'p>(
+pub(crate) fn hands_of<'p>(
     pool: &'p Pool<MemDisk>,
     shares: Vec<(Pass, Permits)>,
     mut hands: Vec<Hand<'p, MemDisk>>,
@@ -55,7 +58,7 @@ fn hands_of<'p>(
 }
 
 /// The hands' passes.
-fn passes_of(
+pub(crate) fn passes_of(
     pool: &Pool<MemDisk>,
     hands: Vec<Hand<'_, MemDisk>>,
     mut passes: Vec<Pass>,
